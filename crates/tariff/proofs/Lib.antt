@@ -1,0 +1,5 @@
+pub mod Tests
+pub mod Sums
+pub mod Caps
+pub mod Plans
+pub mod Charges

@@ -1,0 +1,41 @@
+-- `tariff::billed_of` meets its contract. Assumes nothing.
+use Rattle.tariff.specs.Charges.{billed-kb}
+use borrow.Author.Needs.{needs}
+use Rattle.tariff.proofs.billed_of.Statement.{statement}
+use Rattle.tariff.proofs.billed_of.Tie as tie
+
+enum-told : tie.Need-enum-told
+enum-told c = search needs
+
+enum-told-2 : tie.Need-enum-told-2
+enum-told-2 c = search needs
+
+after-the-first-requires : tie.Need-after-the-first-requires
+after-the-first-requires c κs = search needs
+
+enum-told-3 : tie.Need-enum-told-3
+enum-told-3 c = search needs
+
+returns : tie.Need-returns
+unfolding billed-kb
+returns c = simp (c .enum-told .given .1)
+
+returns-2 : tie.Need-returns-2
+unfolding billed-kb
+returns-2 c = simp (c .after-the-first .ensures, c .before .enum-told2 .given .1)
+
+returns-3 : tie.Need-returns-3
+unfolding billed-kb
+returns-3 c = simp (c .enum-told3 .given .1)
+
+pub billed-of-spec : {M : Type 1} → statement M
+billed-of-spec =
+    tie.close
+    (tie.spec
+    enum-told
+    enum-told-2
+    after-the-first-requires
+    enum-told-3
+    returns
+    returns-2
+    returns-3)

@@ -1,0 +1,5 @@
+pub mod Tests
+pub mod Units
+pub mod Caps
+pub mod Plan
+pub mod Charges

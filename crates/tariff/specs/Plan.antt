@@ -1,0 +1,108 @@
+-- 01, "Plan" and, of the zone data limit L, "Account and its calls". Assumes nothing.
+use Prim.Native.Nat.{ℕ, _*_, _/_, _≤_}
+use mathlib.Core.Bool.{Bool, true, false, not, cond, _&&_}
+use mathlib.Core.List.{List, [], _∷_}
+use lib.Dec.{leb, ltb, eqb}
+use Rattle.tariff.specs.declared.Form.{Form}
+use Rattle.tariff.specs.declared.Form.the-variants.{Prepaid, Bundle, Unlimited}
+use Rattle.tariff.specs.declared.Plan.{Plan}
+use Rattle.tariff.specs.declared.Terms.{Terms}
+use Rattle.tariff.specs.declared.Allowance.{Allowance}
+use Rattle.tariff.specs.declared.Allowance.the-variants.{NoLimit, Kilobytes}
+use Rattle.tariff.specs.declared.Verdict.{Verdict}
+use Rattle.tariff.specs.declared.Verdict.the-variants.{Accepted, Refused}
+use Rattle.tariff.specs.declared.PlanAnswer.{PlanAnswer}
+use Rattle.tariff.specs.declared.PlanAnswer.the-variants.{Granted, Declined}
+use Rattle.tariff.specs.Tests.{all, between, Reason, because, verdict-of}
+
+abbrev pub is-prepaid : Form → Bool
+is-prepaid Prepaid = true
+is-prepaid Bundle = false
+is-prepaid Unlimited = false
+
+-- "Unused fields are 0": fee and V of a prepaid plan, data price and V without volume limit
+unfoldable pub unused-empty : Form → Plan → Bool
+unused-empty Prepaid p = eqb (p .fee) 0 && eqb (p .volume) 0
+unused-empty Bundle p = true
+unused-empty Unlimited p = eqb (p .pergb) 0 && eqb (p .volume) 0
+
+-- home prices: 0 to 1,000,000 points
+unfoldable pub prices-in-range : Plan → Bool
+prices-in-range p = leb (p .pergb) 1000000 && leb (p .perminute) 1000000 && leb (p .persms) 1000000
+
+-- bundles: fee 0 to 10,000,000 points a month; V 1 to 1,073,741,824 kB
+unfoldable pub terms-in-range : Form → Plan → Bool
+terms-in-range Prepaid p = true
+terms-in-range Bundle p = leb (p .fee) 10000000 && between 1 (p .volume) 1073741824
+terms-in-range Unlimited p = leb (p .fee) 10000000
+
+unfoldable pub plan-in-range : Plan → Bool
+plan-in-range p = all (unused-empty (p .form) p ∷ prices-in-range p ∷ terms-in-range (p .form) p ∷ [])
+
+abbrev pub start-in-range : Plan → Bool
+start-in-range p = between 181 (p .start) 3833
+
+-- "What each operation declines", Open: 1 plan outside its ranges; 2 start day outside 181 to 3833
+unfoldable pub plan-reasons : Plan → List Reason
+plan-reasons p = because 1 (not (plan-in-range p)) ∷ because 2 (not (start-in-range p)) ∷ []
+
+unfoldable pub plan-verdict : Plan → Verdict
+plan-verdict p = verdict-of (plan-reasons p)
+
+-- forms by number, as 01's trip file has them: 0 prepaid, 1 bundle, 2 unlimited
+unfoldable pub form-of : ℕ → Form
+form-of w = cond (eqb w 0) Prepaid (cond (eqb w 1) Bundle Unlimited)
+
+abbrev pub form-word : Form → ℕ
+form-word Prepaid = 0
+form-word Bundle = 1
+form-word Unlimited = 2
+
+abbrev pub plan-with : Terms → Plan
+plan-with t = record {
+  form = form-of (t .form);
+  start = t .start;
+  pergb = t .pergb;
+  perminute = t .perminute;
+  persms = t .persms;
+  fee = t .fee;
+  volume = t .volume;
+}
+
+-- an unknown form is a plan outside its ranges: 1
+unfoldable pub terms-reasons : Terms → List Reason
+terms-reasons t = because 1 (ltb 2 (t .form)) ∷ plan-reasons (plan-with t)
+
+abbrev pub plan-answer : Verdict → Plan → PlanAnswer
+plan-answer Accepted p = Granted p
+plan-answer (Refused n) p = Declined n
+
+unfoldable pub plan-of : Terms → PlanAnswer
+plan-of t = plan-answer (verdict-of (terms-reasons t)) (plan-with t)
+
+-- "A bundle is open if it has no volume limit or fee × 1,048,576 < cap × V", at a data cap
+unfoldable pub open-bundle : Form → ℕ → ℕ → ℕ → Bool
+open-bundle Prepaid fee cap volume = false
+open-bundle Bundle fee cap volume = ltb (fee * 1048576) (cap * volume)
+open-bundle Unlimited fee cap volume = true
+
+-- L of a prepaid account that enters the zone or is topped up there: credit × 1,048,576 / cap
+unfoldable pub credit-allowance : ℕ → ℕ → Allowance
+credit-allowance credit cap = Kilobytes (credit * 1048576 / cap)
+
+-- L at opening and, of a bundle, on each month's first day: "Prepaid: L = 0 at first. Open bundle: L = 2 × fee × 1,048,576 / cap. Other bundle: L is none."
+unfoldable pub plan-allowance : Plan → ℕ → Allowance
+plan-allowance p cap =
+    cond (is-prepaid (p .form)) (Kilobytes 0)
+    (cond (open-bundle (p .form) (p .fee) cap (p .volume)) (Kilobytes (2 * p .fee * 1048576 / cap)) NoLimit)
+
+-- what keeps these products within the machine's numbers
+pub record CreditFits (credit cap : ℕ) : Type 0 where
+  pub money : credit ≤ 1000000000
+  pub rate : 1 ≤ cap
+
+pub record BundleFits (fee cap volume : ℕ) : Type 0 where
+  pub money : fee ≤ 10000000
+  pub rate : 1 ≤ cap
+  pub rates : cap ≤ 1000000
+  pub kilobytes : volume ≤ 1073741824
