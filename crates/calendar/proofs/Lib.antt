@@ -1,0 +1,4 @@
+pub mod Table
+pub mod Months
+pub mod Laws
+pub mod Search

@@ -1,0 +1,60 @@
+-- 01, "Figures": the eleven marked figures, as one table of tests over the definitions that the contracts cite. Assumes nothing.
+use Prim.Native.Nat.{ℕ}
+use mathlib.Core.Bool.{Bool, true, false, not}
+use mathlib.Core.List.{List, [], _∷_, _++_}
+use lib.Dec.{eqb}
+use lib.ListN.{replicate}
+use Rattle.tariff.specs.declared.Units.{Units}
+use Rattle.tariff.specs.declared.Form.{Form}
+use Rattle.tariff.specs.declared.Form.the-variants.{Prepaid, Bundle, Unlimited}
+use Rattle.tariff.specs.declared.Plan.{Plan}
+use Rattle.tariff.specs.declared.Allowance.{Allowance}
+use Rattle.tariff.specs.declared.Allowance.the-variants.{NoLimit, Kilobytes}
+use Rattle.tariff.specs.Units.{each, only, zero-units}
+use Rattle.tariff.specs.declared.Kind.the-variants.{Data}
+use Rattle.tariff.specs.Caps.{caps-on}
+use Rattle.tariff.specs.Plan.{open-bundle, credit-allowance, plan-allowance}
+use Rattle.tariff.specs.Charges.{home-charges-of}
+use Rattle.presence.specs.declared.Day.{Day}
+use Rattle.presence.specs.declared.Service.the-variants.{DataService}
+use Rattle.presence.specs.Window.{prevalent-long}
+
+-- the allowance is this number of kB
+abbrev pub allows : Allowance → ℕ → Bool
+allows NoLimit n = false
+allows (Kilobytes l) n = eqb l n
+
+-- a bundle without other prices, and a prepaid plan with a data price
+abbrev pub bundle : Form → ℕ → ℕ → Plan
+bundle f fee volume = record { form = f; start = 181; pergb = 0; perminute = 0; persms = 0; fee = fee; volume = volume }
+
+abbrev pub prepaid-at : ℕ → Plan
+prepaid-at price = record { form = Prepaid; start = 181; pergb = price; perminute = 0; persms = 0; fee = 0; volume = 0 }
+
+-- a day marked zone, or home, with kB used there
+abbrev pub zone-kb : ℕ → Day
+zone-kb n = record { home = false; zone = true; elsewhere = false; athome = zero-units; inzone = only Data n; outside = zero-units }
+
+abbrev pub home-kb : ℕ → Day
+home-kb n = record { home = true; zone = false; elsewhere = false; athome = only Data n; inzone = zero-units; outside = zero-units }
+
+unfoldable pub figures : List Bool
+figures =
+    -- "Fee 900000, cap 77000: L 24512166"
+    allows (plan-allowance (bundle Unlimited 900000 0) 77000) 24512166
+    -- "Fee 100000: 2723574", with 2 GB
+    ∷ allows (plan-allowance (bundle Bundle 100000 2097152) 77000) 2723574
+    -- "Fee 100000 with 3145728 kB is open; with 1048576 it isn't; fee 77000 with 1048576 isn't"
+    ∷ open-bundle Bundle 100000 77000 3145728
+    ∷ not (open-bundle Bundle 100000 77000 1048576)
+    ∷ not (open-bundle Bundle 77000 77000 1048576)
+    -- "Prepaid credit 2000, cap 970: L 2162012; that use at 500/GB costs 1030"
+    ∷ allows (credit-allowance 2000 970) 2162012
+    ∷ eqb (home-charges-of (prepaid-at 500) (only Data 2162012)) 1030
+    -- "61 zone days of 123 aren't prevalent", however many units; "62 with zone units one more than the others are"
+    ∷ not (prevalent-long DataService 123 (replicate 61 (zone-kb 1000) ++ replicate 62 (home-kb 0)))
+    ∷ prevalent-long DataService 123 (replicate 62 (zone-kb 1) ++ replicate 61 (home-kb 1))
+    -- "Day 1460 has data cap 13000, 1461 has 11000"
+    ∷ eqb (caps-on 1460 .kb) 13000
+    ∷ eqb (caps-on 1461 .kb) 11000
+    ∷ []

@@ -1,0 +1,1 @@
+// Document 01's marked figures: definitions and their proof, no code.

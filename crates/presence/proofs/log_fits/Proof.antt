@@ -1,0 +1,41 @@
+-- `presence::log_fits` meets its contract. Assumes nothing.
+use Rattle.tariff.specs.declared.Units.{Units}
+use Rattle.tariff.specs.Tests.{all}
+use Rattle.tariff.specs.Units.{_⊕_, fits}
+use Rattle.presence.proofs.Ceiling.{held-twice, held-low, fits-held}
+use Rattle.presence.specs.Held.{held}
+use Rattle.presence.specs.Day.{day-units}
+use Rattle.presence.specs.Log.{units-over, log-within}
+use mathlib.Core.Path.{_≡_, _∙_, ap}
+use borrow.Author.Needs.{needs}
+use Rattle.presence.proofs.log_fits.Statement.{statement}
+use Rattle.presence.proofs.log_fits.Tie as tie
+
+tally-requires : tie.Need-tally-requires
+tally-requires c κs = search needs
+
+hold-day-requires : tie.Need-hold-day-requires
+hold-day-requires c κs = rw (c .tally .ensures) (held-low _)
+
+rest-blank-requires : tie.Need-rest-blank-requires
+rest-blank-requires c κs = search needs
+
+units-fit-requires : tie.Need-units-fit-requires
+units-fit-requires c κs = search needs
+
+returns : tie.Need-returns
+unfolding log-within all
+returns c = let d = c .before .before .before .before in
+    let a = d .args in
+    let s = day-units (a .today) ⊕ units-over (a .n) (a .log) in
+    let h : c .before .before .hold-day .result ≡ held s =
+    c .before .before .hold-day .ensures ∙ ap (λ (t : Units). held (day-units (a .today) ⊕ t)) (c .before .before .before .tally .ensures)
+    ∙ held-twice (day-units (a .today)) (units-over (a .n) (a .log)) in
+    let e : c .units-fit .result ≡ fits s (a .lifetime) =
+    c .units-fit .ensures ∙ ap (λ (t : Units). fits t (a .lifetime)) h ∙ fits-held s (a .lifetime) (d .pre .1) in
+    simp (e, c .before .rest-blank .ensures)
+
+pub log-fits-spec : {M : Type 1} → statement M
+log-fits-spec =
+    tie.close
+    (tie.spec tally-requires hold-day-requires rest-blank-requires units-fit-requires returns)

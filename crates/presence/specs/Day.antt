@@ -1,0 +1,70 @@
+-- 01, "Account and its calls": today's marks and its units by kind and place, what a day counts as, and the log. Assumes nothing.
+use Prim.Native.Nat.{ℕ}
+use mathlib.Core.Bool.{Bool, true, false, cond, _||_}
+use mathlib.Core.List.{List, _∷_}
+use lib.ListN.{take}
+use Rattle.tariff.specs.declared.Units.{Units}
+use Rattle.tariff.specs.declared.Place.{Place}
+use Rattle.tariff.specs.declared.Place.the-variants.{Home, Zone, Elsewhere}
+use Rattle.tariff.specs.Units.{zero-units, _⊕_, Adds}
+use Rattle.presence.specs.declared.Location.{Location}
+use Rattle.presence.specs.declared.Location.the-variants.{Nowhere, At}
+use Rattle.presence.specs.declared.Day.{Day}
+use Rattle.presence.specs.declared.DayKind.{DayKind}
+use Rattle.presence.specs.declared.DayKind.the-variants.{HomeDay, ZoneDay, OffDay}
+
+abbrev pub in-zone : Location → Bool
+in-zone Nowhere = false
+in-zone (At Home) = false
+in-zone (At Zone) = true
+in-zone (At Elsewhere) = false
+
+-- "place (none at first)": somewhere
+abbrev pub is-placed : Location → Bool
+is-placed Nowhere = false
+is-placed (At p) = true
+
+-- "today is emptied": a day without marks and units
+abbrev pub empty-day : Day
+empty-day = record { home = false; zone = false; elsewhere = false; athome = zero-units; inzone = zero-units; outside = zero-units }
+
+-- "marks today with the place"
+unfoldable pub mark-day : Location → Day → Day
+mark-day Nowhere d = d
+mark-day (At Home) d = record { home = true; zone = d .zone; elsewhere = d .elsewhere; athome = d .athome; inzone = d .inzone; outside = d .outside }
+mark-day (At Zone) d = record { home = d .home; zone = true; elsewhere = d .elsewhere; athome = d .athome; inzone = d .inzone; outside = d .outside }
+mark-day (At Elsewhere) d = record { home = d .home; zone = d .zone; elsewhere = true; athome = d .athome; inzone = d .inzone; outside = d .outside }
+
+-- "its units by kind and place": units joined to those of the place
+unfoldable pub add-day : Location → Units → Day → Day
+add-day Nowhere u d = d
+add-day (At Home) u d = record { home = d .home; zone = d .zone; elsewhere = d .elsewhere; athome = d .athome ⊕ u; inzone = d .inzone; outside = d .outside }
+add-day (At Zone) u d = record { home = d .home; zone = d .zone; elsewhere = d .elsewhere; athome = d .athome; inzone = d .inzone ⊕ u; outside = d .outside }
+add-day (At Elsewhere) u d = record { home = d .home; zone = d .zone; elsewhere = d .elsewhere; athome = d .athome; inzone = d .inzone; outside = d .outside ⊕ u }
+
+-- what keeps these sums within the machine's numbers
+pub record DayAdds (d : Day) (u : Units) : Type 0 where
+  pub home-adds : Adds (d .athome) u
+  pub zone-adds : Adds (d .inzone) u
+  pub outside-adds : Adds (d .outside) u
+
+-- "It counts as home if marked home or elsewhere, else zone if marked zone, else off."
+unfoldable pub counts-as : Day → DayKind
+counts-as d = cond (d .home || d .elsewhere) HomeDay (cond (d .zone) ZoneDay OffDay)
+
+-- 1 for a zone day, else 0
+abbrev pub one-if-zone : DayKind → ℕ
+one-if-zone HomeDay = 0
+one-if-zone ZoneDay = 1
+one-if-zone OffDay = 0
+
+unfoldable pub zone-day : Day → ℕ
+zone-day d = one-if-zone (counts-as d)
+
+-- a day's units of each kind, wherever used
+abbrev pub day-units : Day → Units
+day-units d = d .athome ⊕ d .inzone ⊕ d .outside
+
+-- "today joins the log of the last 123 days (older ones drop)": the newest day stands first
+unfoldable pub joined : Day → List Day → List Day
+joined d ds = take 123 (d ∷ ds)

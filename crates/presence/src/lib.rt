@@ -1,0 +1,561 @@
+// A day's marks and units, the log of the last days, and what it makes of the services: document 01, "Account and its calls", Next day.
+use tariff::Place;
+use tariff::Units;
+ghost use mathlib.Core.Path.{_≡_};
+ghost use mathlib.Core.Bool.{Bool, true, false, cond, _&&_};
+ghost use mathlib.Core.List.{[], _∷_};
+ghost use Prim.Native.Nat.{ℕ, _+_, _≤_, _<_, min};
+ghost use lib.Dec.{leb, ltb};
+ghost use lib.ListN.{drop, replicate};
+ghost use Rattle.tariff.specs.Units.{_⊕_, each, AtMost};
+ghost use Rattle.presence.specs.Day.{in-zone, is-placed, mark-day, add-day, DayAdds, counts-as, zone-day, day-units, empty-day, joined};
+ghost use Rattle.presence.specs.Window.{zone-units, other-units, window-sums, sums-zone, sums-other, prevailing};
+ghost use Rattle.presence.specs.Service.{next-state, state-step, services-after};
+ghost use Rattle.presence.specs.Log.{units-over, blank, all-blank, lifetime-most, log-within};
+ghost use Rattle.presence.specs.Held.{held, Low, sum-to, Filled, Summable, column-sums, both-windows, stepped-by};
+
+// Where the hotspot is: nowhere before the first registration.
+pub enum Location {
+    Nowhere,
+    At(Place),
+}
+
+// A day: its marks, and its units by kind and place.
+pub struct Day {
+    pub home: bool,
+    pub zone: bool,
+    pub elsewhere: bool,
+    pub athome: Units,
+    pub inzone: Units,
+    pub outside: Units,
+}
+
+// What a day counts as.
+pub enum DayKind {
+    HomeDay,
+    ZoneDay,
+    OffDay,
+}
+
+pub enum Service {
+    DataService,
+    CallService,
+    SmsService,
+}
+
+// Warned with its day changes so far.
+pub enum ServiceState {
+    Clear,
+    Warned(u64),
+    Surcharged,
+}
+
+// The states of the three services.
+pub struct Services {
+    pub internet: ServiceState,
+    pub calls: ServiceState,
+    pub messages: ServiceState,
+}
+
+// The numbers of each logged day that a window adds up, newest day first.
+struct Columns {
+    days: [u64; 123],
+    zonekb: [u64; 123],
+    otherkb: [u64; 123],
+    zonecalls: [u64; 123],
+    othercalls: [u64; 123],
+    zonesms: [u64; 123],
+    othersms: [u64; 123],
+}
+
+// The sums of a window: zone days, and each service's zone and other units.
+pub struct Sums {
+    pub days: u64,
+    pub zonekb: u64,
+    pub otherkb: u64,
+    pub zonecalls: u64,
+    pub othercalls: u64,
+    pub zonesms: u64,
+    pub othersms: u64,
+}
+
+// The sums over the last 123 days and over the last 15.
+struct Windows {
+    long: Sums,
+    short: Sums,
+}
+
+fn zone_place(p: Place) -> bool
+    ensures { λ r. ⌜ r ≡ in-zone (Location.At p) ⌝ }
+{
+    match p {
+        Place::Home => false,
+        Place::Zone => true,
+        Place::Elsewhere => false,
+    }
+}
+
+// Is the hotspot in the zone?
+pub fn zone_at(w: Location) -> bool
+    ensures { λ r. ⌜ r ≡ in-zone w ⌝ }
+{
+    match w {
+        Location::Nowhere => false,
+        Location::At(p) => zone_place(p),
+    }
+}
+
+// Is it anywhere?
+pub fn placed(w: Location) -> bool
+    ensures { λ r. ⌜ r ≡ is-placed w ⌝ }
+{
+    match w {
+        Location::Nowhere => false,
+        Location::At(_) => true,
+    }
+}
+
+// A day without marks or units.
+pub fn day_empty() -> Day
+    ensures { λ r. ⌜ r ≡ empty-day ⌝ }
+{
+    let none = Units {
+        kb: 0,
+        outgoing: 0,
+        incoming: 0,
+        sms: 0,
+    };
+    Day {
+        home: false,
+        zone: false,
+        elsewhere: false,
+        athome: none,
+        inzone: none,
+        outside: none,
+    }
+}
+
+// A log without days.
+pub fn log_empty() -> [Day; 123]
+    ensures { λ r. ⌜ r ≡ replicate 123 empty-day ⌝ }
+{
+    let d = day_empty();
+    [d; 123]
+}
+
+fn mark_place(p: Place, mut d: Day) -> Day
+    ensures { λ r. ⌜ r ≡ mark-day (Location.At p) d ⌝ }
+{
+    match p {
+        Place::Home => {
+            d.home = true;
+            d
+        }
+        Place::Zone => {
+            d.zone = true;
+            d
+        }
+        Place::Elsewhere => {
+            d.elsewhere = true;
+            d
+        }
+    }
+}
+
+// The day marked with the place.
+pub fn marked(w: Location, d: Day) -> Day
+    ensures { λ r. ⌜ r ≡ mark-day w d ⌝ }
+{
+    match w {
+        Location::Nowhere => d,
+        Location::At(p) => mark_place(p, d),
+    }
+}
+
+fn add_place(p: Place, u: Units, mut d: Day) -> Day
+    requires { ⌜ DayAdds d u ⌝ }
+    ensures { λ r. ⌜ r ≡ add-day (Location.At p) u d ⌝ }
+{
+    match p {
+        Place::Home => {
+            let v = tariff::plus(d.athome, u);
+            d.athome = v;
+            d
+        }
+        Place::Zone => {
+            let v = tariff::plus(d.inzone, u);
+            d.inzone = v;
+            d
+        }
+        Place::Elsewhere => {
+            let v = tariff::plus(d.outside, u);
+            d.outside = v;
+            d
+        }
+    }
+}
+
+// The day with more units at the place.
+pub fn added(w: Location, u: Units, d: Day) -> Day
+    requires { ⌜ DayAdds d u ⌝ }
+    ensures { λ r. ⌜ r ≡ add-day w u d ⌝ }
+{
+    match w {
+        Location::Nowhere => d,
+        Location::At(p) => add_place(p, u, d),
+    }
+}
+
+// What a day counts as.
+pub fn day_kind(d: Day) -> DayKind
+    ensures { λ r. ⌜ r ≡ counts-as d ⌝ }
+{
+    if d.home | d.elsewhere {
+        return DayKind::HomeDay;
+    }
+    if d.zone {
+        return DayKind::ZoneDay;
+    }
+    DayKind::OffDay
+}
+
+// 1 for a zone day, else 0.
+fn zone_bit(d: Day) -> u64
+    ensures { λ r. ⌜ r ≡ zone-day d ⌝ }
+{
+    let k = day_kind(d);
+    match k {
+        DayKind::HomeDay => 0,
+        DayKind::ZoneDay => 1,
+        DayKind::OffDay => 0,
+    }
+}
+
+fn zone_of(d: Day, s: Service) -> u64
+    requires { ⌜ Low (day-units d) ⌝ }
+    ensures { λ r. ⌜ r ≡ zone-units s d ⌝ }
+{
+    let z = d.inzone;
+    match s {
+        Service::DataService => z.kb,
+        Service::CallService => z.outgoing + z.incoming,
+        Service::SmsService => z.sms,
+    }
+}
+
+fn other_of(d: Day, s: Service) -> u64
+    requires { ⌜ Low (day-units d) ⌝ }
+    ensures { λ r. ⌜ r ≡ other-units s d ⌝ }
+{
+    let h = d.athome;
+    let e = d.outside;
+    match s {
+        Service::DataService => h.kb + e.kb,
+        Service::CallService => h.outgoing + e.outgoing + e.incoming,
+        Service::SmsService => h.sms + e.sms,
+    }
+}
+
+// The log with one day more; the oldest drops where it was full.
+pub fn push(log: [Day; 123], d: Day) -> [Day; 123]
+    ensures { λ r. ⌜ r ≡ joined d log ⌝ }
+{
+    let mut out = log;
+    out[0] = d;
+    let mut i: usize = 1;
+    while i < 123 {
+        out[i] = log[i - 1];
+        i += 1;
+    }
+    out
+}
+
+// The columns of the first n days of the log.
+fn fill_columns(log: [Day; 123], n: usize) -> Columns
+    requires { ⌜ (n ≤ 123) × Low (units-over n log) ⌝ }
+    ensures { λ r. ⌜ Filled n r log ⌝ }
+{
+    let zero = [0u64; 123];
+    let mut c = Columns {
+        days: zero,
+        zonekb: zero,
+        otherkb: zero,
+        zonecalls: zero,
+        othercalls: zero,
+        zonesms: zero,
+        othersms: zero,
+    };
+    let mut i: usize = 0;
+    while i < n {
+        let d = log[i];
+        c.days[i] = zone_bit(d);
+        c.zonekb[i] = zone_of(d, Service::DataService);
+        c.otherkb[i] = other_of(d, Service::DataService);
+        c.zonecalls[i] = zone_of(d, Service::CallService);
+        c.othercalls[i] = other_of(d, Service::CallService);
+        c.zonesms[i] = zone_of(d, Service::SmsService);
+        c.othersms[i] = other_of(d, Service::SmsService);
+        i += 1;
+    }
+    c
+}
+
+// The sum of the first w numbers: the last of them, and the sum of one less.
+fn sum_last(column: &[u64; 123], w: usize) -> u64
+    requires { ⌜ (w ≤ 123) × (sum-to w (now column) ≤ 5000000000000) ⌝ }
+    ensures { λ r. ⌜ r ≡ sum-to w (now (column .entry)) ⌝ }
+{
+    if w == 0 {
+        return 0;
+    }
+    let last = w - 1;
+    column[last] + sum_last(column, last)
+}
+
+fn lesser(m: usize, n: usize) -> usize
+    ensures { λ r. ⌜ r ≡ min m n ⌝ }
+{
+    if m < n { m } else { n }
+}
+
+// The sums of a window, from the columns.
+fn sums_over<'a>(
+    days: &'a [u64; 123],
+    zonekb: &'a [u64; 123],
+    otherkb: &'a [u64; 123],
+    zonecalls: &'a [u64; 123],
+    othercalls: &'a [u64; 123],
+    zonesms: &'a [u64; 123],
+    othersms: &'a [u64; 123],
+    w: usize,
+) -> Sums
+    requires { ⌜ (w ≤ 123) × Summable w (now days) × Summable w (now zonekb) × Summable w (now otherkb) × Summable w (now zonecalls) × Summable w (now othercalls) × Summable w (now zonesms) × Summable w (now othersms) ⌝ }
+    ensures { λ r. ⌜ r ≡ column-sums w (now (days .entry)) (now (zonekb .entry)) (now (otherkb .entry)) (now (zonecalls .entry)) (now (othercalls .entry)) (now (zonesms .entry)) (now (othersms .entry)) ⌝ }
+{
+    let a = sum_last(days, w);
+    let b = sum_last(zonekb, w);
+    let c = sum_last(otherkb, w);
+    let d = sum_last(zonecalls, w);
+    let e = sum_last(othercalls, w);
+    let f = sum_last(zonesms, w);
+    let g = sum_last(othersms, w);
+    Sums {
+        days: a,
+        zonekb: b,
+        otherkb: c,
+        zonecalls: d,
+        othercalls: e,
+        zonesms: f,
+        othersms: g,
+    }
+}
+
+// The sums of both windows, with n days logged.
+fn sum_windows(log: [Day; 123], n: usize) -> Windows
+    requires { ⌜ (n ≤ 123) × Low (units-over n log) ⌝ }
+    ensures { λ r. ⌜ r ≡ both-windows n log ⌝ }
+{
+    let c = fill_columns(log, n);
+    let l = lesser(123, n);
+    let s = lesser(15, n);
+    let long = sums_over(
+        &c.days,
+        &c.zonekb,
+        &c.otherkb,
+        &c.zonecalls,
+        &c.othercalls,
+        &c.zonesms,
+        &c.othersms,
+        l,
+    );
+    let short = sums_over(
+        &c.days,
+        &c.zonekb,
+        &c.otherkb,
+        &c.zonecalls,
+        &c.othercalls,
+        &c.zonesms,
+        &c.othersms,
+        s,
+    );
+    Windows {
+        long: long,
+        short: short,
+    }
+}
+
+fn zone_sum(s: Sums, v: Service) -> u64
+    ensures { λ r. ⌜ r ≡ sums-zone v s ⌝ }
+{
+    match v {
+        Service::DataService => s.zonekb,
+        Service::CallService => s.zonecalls,
+        Service::SmsService => s.zonesms,
+    }
+}
+
+fn other_sum(s: Sums, v: Service) -> u64
+    ensures { λ r. ⌜ r ≡ sums-other v s ⌝ }
+{
+    match v {
+        Service::DataService => s.otherkb,
+        Service::CallService => s.othercalls,
+        Service::SmsService => s.othersms,
+    }
+}
+
+// Is the service prevalent, with at least `need` zone days?
+fn prevails(s: Sums, v: Service, need: u64) -> bool
+    ensures { λ r. ⌜ r ≡ prevailing need (s .days) (sums-zone v s) (sums-other v s) ⌝ }
+{
+    let zone = zone_sum(s, v);
+    let other = other_sum(s, v);
+    (need <= s.days) & (other < zone)
+}
+
+fn step(full: bool, long: bool, short: bool, state: ServiceState) -> ServiceState
+    ensures { λ r. ⌜ r ≡ state-step full long short state ⌝ }
+{
+    match state {
+        ServiceState::Clear => {
+            if full & long {
+                ServiceState::Warned(0)
+            } else {
+                ServiceState::Clear
+            }
+        }
+        ServiceState::Warned(k) => {
+            if k < 14 {
+                ServiceState::Warned(k + 1)
+            } else if short {
+                ServiceState::Surcharged
+            } else {
+                ServiceState::Clear
+            }
+        }
+        ServiceState::Surcharged => {
+            if long {
+                ServiceState::Surcharged
+            } else {
+                ServiceState::Clear
+            }
+        }
+    }
+}
+
+// A service's state after a day change, with n days logged.
+fn state_after(v: Service, n: usize, w: Windows, state: ServiceState) -> ServiceState
+    ensures { λ r. ⌜ r ≡ stepped-by v n w state ⌝ }
+{
+    let long = w.long;
+    let short = w.short;
+    let over_long = prevails(long, v, 62);
+    let over_short = prevails(short, v, 8);
+    step(123 <= n, over_long, over_short, state)
+}
+
+// The three states after a day change, with n days logged, the one just ended among them.
+pub fn services_next(s: Services, log: [Day; 123], n: usize) -> Services
+    requires { ⌜ (n ≤ 123) × AtMost (units-over n log) lifetime-most ⌝ }
+    ensures { λ r. ⌜ r ≡ services-after n log s ⌝ }
+{
+    let w = sum_windows(log, n);
+    let internet = s.internet;
+    let calls = s.calls;
+    let messages = s.messages;
+    let a = state_after(Service::DataService, n, w, internet);
+    let b = state_after(Service::CallService, n, w, calls);
+    let c = state_after(Service::SmsService, n, w, messages);
+    Services {
+        internet: a,
+        calls: b,
+        messages: c,
+    }
+}
+
+// The sum, held at 1,000,000,000,001.
+fn hold(a: u64, b: u64) -> u64
+    requires { ⌜ a ≤ 1000000000001 ⌝ }
+    ensures { λ r. ⌜ r ≡ min (b + a) 1000000000001 ⌝ }
+{
+    if b >= 1000000000001 - a {
+        1000000000001
+    } else {
+        a + b
+    }
+}
+
+fn hold_units(sum: Units, u: Units) -> Units
+    requires { ⌜ Low sum ⌝ }
+    ensures { λ r. ⌜ r ≡ held (u ⊕ sum) ⌝ }
+{
+    Units {
+        kb: hold(sum.kb, u.kb),
+        outgoing: hold(sum.outgoing, u.outgoing),
+        incoming: hold(sum.incoming, u.incoming),
+        sms: hold(sum.sms, u.sms),
+    }
+}
+
+fn hold_day(sum: Units, d: Day) -> Units
+    requires { ⌜ Low sum ⌝ }
+    ensures { λ r. ⌜ r ≡ held (day-units d ⊕ sum) ⌝ }
+{
+    let a = hold_units(sum, d.outside);
+    let b = hold_units(a, d.inzone);
+    hold_units(b, d.athome)
+}
+
+// The units of the first n days, whatever they hold.
+fn tally(log: [Day; 123], n: usize) -> Units
+    requires { ⌜ n ≤ 123 ⌝ }
+    ensures { λ r. ⌜ r ≡ held (units-over n log) ⌝ }
+{
+    let mut sum = Units {
+        kb: 0,
+        outgoing: 0,
+        incoming: 0,
+        sms: 0,
+    };
+    let mut i: usize = 0;
+    while i < n {
+        sum = hold_day(sum, log[i]);
+        i += 1;
+    }
+    sum
+}
+
+fn is_blank(d: Day) -> bool
+    ensures { λ r. ⌜ r ≡ blank d ⌝ }
+{
+    let a = tariff::is_none(d.athome);
+    let z = tariff::is_none(d.inzone);
+    let e = tariff::is_none(d.outside);
+    !d.home & !d.zone & !d.elsewhere & a & z & e
+}
+
+// Are the places past the first n blank?
+fn rest_blank(log: [Day; 123], n: usize) -> bool
+    requires { ⌜ n ≤ 123 ⌝ }
+    ensures { λ r. ⌜ r ≡ all-blank (drop n log) ⌝ }
+{
+    let mut i = n;
+    while i < 123 {
+        if !is_blank(log[i]) {
+            return false;
+        }
+        i += 1;
+    }
+    true
+}
+
+// Are the units of today and of the n logged days within the lifetime units, and the other places blank?
+pub fn log_fits(log: [Day; 123], today: Day, n: u64, lifetime: Units) -> bool
+    requires { ⌜ (n ≤ 123) × AtMost lifetime lifetime-most ⌝ }
+    ensures { λ r. ⌜ r ≡ log-within log today n lifetime ⌝ }
+{
+    let k = n as usize;
+    let sum = hold_day(tally(log, k), today);
+    let rest = rest_blank(log, k);
+    tariff::units_fit(sum, lifetime) & rest
+}
