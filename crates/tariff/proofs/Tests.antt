@@ -50,6 +50,10 @@ and-assoc true t u = refl
 and-assoc false t u = refl
 
 -- a list of tests passes exactly if its first one and the others do
+pub all-nil : all [] ≡ true
+unfolding all
+all-nil = refl
+
 pub all-cons : (b : Bool) (bs : List Bool) → b ≡ true → all bs ≡ true → all (b ∷ bs) ≡ true
 unfolding all
 all-cons b [] e h = e

@@ -1,0 +1,5 @@
+pub mod Adding
+pub mod Bounds
+pub mod Soundness
+pub mod Billing
+pub mod Verdicts

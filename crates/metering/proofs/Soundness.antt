@@ -1,0 +1,121 @@
+-- What the tests of soundness tell, and what makes them pass. Assumes nothing.
+use Prim.Native.Nat.{ℕ, _+_, _*_, _-_, _≤_, min}
+use mathlib.Core.Path.{_≡_}
+use mathlib.Core.Bool.{Bool, true}
+use mathlib.Core.List.{List, [], _∷_}
+use native.Mathlib.Omega.{arith}
+use lib.Dec.{leb, eqb}
+use borrow.Author.Tests.{eqb-true, eq-eqb, leb-true, le-leb}
+use Rattle.tariff.specs.declared.Units.{Units}
+use Rattle.tariff.specs.Tests.{all, is-accepted}
+use Rattle.tariff.specs.Units.{each, _⊗_, fits, AtMost}
+use Rattle.tariff.specs.Plan.{plan-verdict}
+use Rattle.tariff.specs.Charges.{home-charges-of, surcharges-of, PriceFits, BasisFits}
+use Rattle.tariff.proofs.Tests.{all-nil, all-cons, all-head, all-tail}
+use Rattle.tariff.proofs.Sums.{fits-tells, fits-yes}
+use Rattle.tariff.proofs.Plans.{Ranged, plan-ranged, Opens, opens-tells}
+use Rattle.presence.specs.Log.{lifetime-most}
+use Rattle.metering.specs.declared.State.{State}
+use Rattle.metering.specs.Sound.{allowance-fits, warning-fits, figures-sound, charges-sound}
+use Rattle.metering.proofs.Adding.{Worked}
+
+-- the single figures
+pub record Figures (a : State) : Type 0 where
+  pub plan-ok : is-accepted (plan-verdict (a .plan)) ≡ true
+  pub started : a .plan .start ≤ a .day
+  pub day-ok : a .day ≤ 3833
+  pub lifetime-ok : AtMost (a .lifetime) lifetime-most
+  pub paid-ok : a .paid ≤ 1000000000
+  pub roamed-ok : a .roamed ≤ a .lifetime .kb
+  pub monthly-ok : a .monthly ≤ a .lifetime .kb
+  pub billed-ok : AtMost (a .billed) (a .lifetime)
+  pub surcharged-ok : AtMost (a .surcharged) (a .lifetime)
+  pub basis-ok : AtMost (a .basis) (each 20000 20000 20000 20000 ⊗ a .surcharged)
+  pub allowance-ok : allowance-fits (a .allowance) ≡ true
+  pub logged-ok : a .logged ≡ min 123 (a .day - a .plan .start)
+  pub internet-ok : warning-fits (a .services .internet) ≡ true
+  pub calls-ok : warning-fits (a .services .calls) ≡ true
+  pub messages-ok : warning-fits (a .services .messages) ≡ true
+
+pub figures-tell : (a : State) → figures-sound a ≡ true → Figures a
+unfolding figures-sound
+figures-tell a e =
+    let e1 = all-tail _ _ e in
+    let e2 = all-tail _ _ e1 in
+    let e3 = all-tail _ _ e2 in
+    let e4 = all-tail _ _ e3 in
+    let e5 = all-tail _ _ e4 in
+    let e6 = all-tail _ _ e5 in
+    let e7 = all-tail _ _ e6 in
+    let e8 = all-tail _ _ e7 in
+    let e9 = all-tail _ _ e8 in
+    let e10 = all-tail _ _ e9 in
+    let e11 = all-tail _ _ e10 in
+    let e12 = all-tail _ _ e11 in
+    let e13 = all-tail _ _ e12 in
+    let e14 = all-tail _ _ e13 in
+    record {
+      plan-ok = all-head _ _ e;
+      started = leb-true _ _ (all-head _ _ e1);
+      day-ok = leb-true _ _ (all-head _ _ e2);
+      lifetime-ok = fits-tells _ _ (all-head _ _ e3);
+      paid-ok = leb-true _ _ (all-head _ _ e4);
+      roamed-ok = leb-true _ _ (all-head _ _ e5);
+      monthly-ok = leb-true _ _ (all-head _ _ e6);
+      billed-ok = fits-tells _ _ (all-head _ _ e7);
+      surcharged-ok = fits-tells _ _ (all-head _ _ e8);
+      basis-ok = fits-tells _ _ (all-head _ _ e9);
+      allowance-ok = all-head _ _ e10;
+      logged-ok = eqb-true _ _ (all-head _ _ e11);
+      internet-ok = all-head _ _ e12;
+      calls-ok = all-head _ _ e13;
+      messages-ok = all-head _ _ e14;
+    }
+
+pub figures-pass : (a : State) → Figures a → figures-sound a ≡ true
+unfolding figures-sound
+figures-pass a s =
+    all-cons _ _ (s .plan-ok)
+    (all-cons _ _ (le-leb _ _ (s .started))
+    (all-cons _ _ (le-leb _ _ (s .day-ok))
+    (all-cons _ _ (fits-yes _ _ (s .lifetime-ok))
+    (all-cons _ _ (le-leb _ _ (s .paid-ok))
+    (all-cons _ _ (le-leb _ _ (s .roamed-ok))
+    (all-cons _ _ (le-leb _ _ (s .monthly-ok))
+    (all-cons _ _ (fits-yes _ _ (s .billed-ok))
+    (all-cons _ _ (fits-yes _ _ (s .surcharged-ok))
+    (all-cons _ _ (fits-yes _ _ (s .basis-ok))
+    (all-cons _ _ (s .allowance-ok)
+    (all-cons _ _ (eq-eqb _ _ (s .logged-ok))
+    (all-cons _ _ (s .internet-ok)
+    (all-cons _ _ (s .calls-ok)
+    (all-cons _ _ (s .messages-ok) all-nil))))))))))))))
+
+-- the charges and the balance
+pub record Balanced (a : State) : Type 0 where
+  pub worked : Worked a
+  pub balance : a .paid ≡ a .credit + a .homecharges + a .surcharges
+
+pub charges-tell : (a : State) → charges-sound a ≡ true → Balanced a
+unfolding charges-sound
+charges-tell a e = record {
+  worked = record { home-is = eqb-true _ _ (all-head _ _ e); extra-is = eqb-true _ _ (all-head _ _ (all-tail _ _ e)) };
+  balance = eqb-true _ _ (all-head _ _ (all-tail _ _ (all-tail _ _ e)));
+}
+
+pub charges-pass : (a : State) → Balanced a → charges-sound a ≡ true
+unfolding charges-sound
+charges-pass a s =
+    all-cons _ _ (eq-eqb _ _ (s .worked .home-is))
+    (all-cons _ _ (eq-eqb _ _ (s .worked .extra-is))
+    (all-cons _ _ (eq-eqb _ _ (s .balance)) all-nil))
+
+-- the plan's ranges, and the amounts that charges are worked out from
+pub plan-of-state : (a : State) → Figures a → Ranged (a .plan)
+plan-of-state a f = plan-ranged (a .plan) (opens-tells (a .plan) (f .plan-ok) .ranges)
+
+pub billed-held : (a : State) → Figures a → PriceFits (a .plan) (a .billed)
+billed-held a f = omega (arith, plan-of-state a f, f .billed-ok, f .lifetime-ok)
+
+pub basis-held : (a : State) → Figures a → BasisFits (a .basis)
+basis-held a f = omega (arith, f .basis-ok, f .surcharged-ok, f .lifetime-ok)

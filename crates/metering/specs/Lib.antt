@@ -1,0 +1,5 @@
+pub mod Use
+pub mod Moves
+pub mod Sound
+pub mod Reasons
+pub mod Needs

@@ -1,0 +1,59 @@
+-- What the code's own helpers ask, so that their sums stay within the machine's numbers. No rule of 01 stands here. Assumes nothing.
+use Prim.Native.Nat.{ℕ, _+_, _≤_, _<_, min}
+use mathlib.Core.Path.{_≡_}
+use mathlib.Core.Bool.{Bool, true, false}
+use mathlib.Core.List.{List}
+use Rattle.tariff.specs.declared.Units.{Units}
+use Rattle.tariff.specs.declared.Place.the-variants.{Home, Zone, Elsewhere}
+use Rattle.tariff.specs.Units.{each, _⊕_, fits, AtMost}
+use Rattle.presence.specs.declared.Location.{Location}
+use Rattle.presence.specs.declared.Location.the-variants.{Nowhere, At}
+use Rattle.presence.specs.declared.Day.{Day}
+use Rattle.presence.specs.Day.{day-units}
+use Rattle.presence.specs.Log.{units-over, lifetime-most}
+use Rattle.metering.specs.declared.State.{State}
+use Rattle.metering.specs.declared.Bill.{Bill}
+use Rattle.metering.specs.Use.{billed-after, newly-surcharged, basis-after, home-after, extra-after, cost}
+use Rattle.metering.specs.Sound.{figures-sound, charges-sound}
+
+-- a place where the home price bears
+abbrev pub bears : Location → Bool
+bears Nowhere = false
+bears (At Home) = true
+bears (At Zone) = true
+bears (At Elsewhere) = false
+
+-- what a use charged as c makes of the sums
+unfoldable pub bill-of : State → Units → Bill
+bill-of a c = record {
+  billed = billed-after a c;
+  fresh = newly-surcharged a c;
+  basis = basis-after a c;
+  home = home-after a c;
+  extra = extra-after a c;
+}
+
+-- the account's figures are sound, and the units, which the lifetime units can take, are no more than a use may have
+pub record Ready (a : State) (u : Units) : Type 0 where
+  pub figures : figures-sound a ≡ true
+  pub few : AtMost u (each 1000000000 1000000000 1000000000 1000000000)
+  pub room : AtMost (a .lifetime ⊕ u) lifetime-most
+
+-- what soundness tells of all but the log
+pub record Steady (a : State) : Type 0 where
+  pub figures : figures-sound a ≡ true
+  pub charges : charges-sound a ≡ true
+  pub today : AtMost (day-units (a .today)) (a .lifetime)
+
+-- a use that is not refused, with its bill
+pub record Spends (a : State) (u : Units) (b : Bill) : Type 0 where
+  pub steady : Steady a
+  pub ready : Ready a u
+  pub bill-is : b ≡ bill-of a u
+  pub affordable : cost a u ≤ a .credit
+
+-- a day change that is not refused, where the log has today in it
+pub record Turns (a : State) (ds : List Day) : Type 0 where
+  pub figures : figures-sound a ≡ true
+  pub before-end : a .day < 3833
+  pub within : AtMost (units-over (min 123 (a .logged + 1)) ds) lifetime-most

@@ -1,0 +1,46 @@
+-- 01, "What each operation declines": the reasons of each call but 0, in 01's order, and a use by them. Assumes nothing.
+use Prim.Native.Nat.{ℕ, _+_}
+use mathlib.Core.Bool.{Bool, true, false, not, cond}
+use mathlib.Core.List.{List, [], _∷_}
+use lib.Dec.{leb, ltb}
+use Rattle.tariff.specs.declared.Kind.{Kind}
+use Rattle.tariff.specs.declared.Verdict.{Verdict}
+use Rattle.tariff.specs.declared.Verdict.the-variants.{Accepted, Refused}
+use Rattle.tariff.specs.Tests.{between, Reason, because, verdict-of, is-accepted}
+use Rattle.tariff.specs.Units.{only, of-kind}
+use Rattle.presence.specs.Day.{is-placed}
+use Rattle.metering.specs.declared.State.{State}
+use Rattle.metering.specs.declared.Charge.{Charge}
+use Rattle.metering.specs.declared.UseAnswer.{UseAnswer}
+use Rattle.metering.specs.declared.UseAnswer.the-variants.{Charged, Declined}
+use Rattle.metering.specs.declared.StateUsed.{StateUsed}
+use Rattle.metering.specs.Use.{cost, spent, charge-of}
+
+-- "Use: 3 no place; 4 n outside 1 to 1,000,000,000; 5 lifetime units of the kind would pass 1,000,000,000,000; 6 cost above credit"
+unfoldable pub use-reasons : State → Kind → ℕ → List Reason
+use-reasons a k n =
+    because 3 (not (is-placed (a .place)))
+    ∷ because 4 (not (between 1 n 1000000000))
+    ∷ because 5 (ltb 1000000000000 (of-kind k (a .lifetime) + n))
+    ∷ because 6 (ltb (a .credit) (cost a (only k n)))
+    ∷ []
+
+-- "Top-up: 7 amount outside 1 to 10,000,000; 8 paid in would pass 1,000,000,000"
+unfoldable pub top-up-reasons : State → ℕ → List Reason
+top-up-reasons a n = because 7 (not (between 1 n 10000000)) ∷ because 8 (ltb 1000000000 (a .paid + n)) ∷ []
+
+-- "Next day: 9 on day 3833"
+unfoldable pub next-day-reasons : State → List Reason
+next-day-reasons a = because 9 (leb 3833 (a .day)) ∷ []
+
+-- the answer of a use: its charge, or 01's number
+abbrev pub use-answer : Verdict → Charge → UseAnswer
+use-answer Accepted c = Charged c
+use-answer (Refused n) c = Declined n
+
+-- a use on a sound account: its answer, and all but the log
+unfoldable pub use-state : State → Kind → ℕ → StateUsed
+use-state a k n = record {
+  answer = use-answer (verdict-of (use-reasons a k n)) (charge-of a k (only k n));
+  state = cond (is-accepted (verdict-of (use-reasons a k n))) (spent a (only k n) (only k n)) a;
+}
