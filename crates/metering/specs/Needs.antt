@@ -6,6 +6,7 @@ use mathlib.Core.List.{List}
 use Rattle.tariff.specs.declared.Units.{Units}
 use Rattle.tariff.specs.declared.Place.the-variants.{Home, Zone, Elsewhere}
 use Rattle.tariff.specs.Units.{each, _⊕_, fits, AtMost}
+use Rattle.tariff.specs.declared.Plan.{Plan}
 use Rattle.presence.specs.declared.Location.{Location}
 use Rattle.presence.specs.declared.Location.the-variants.{Nowhere, At}
 use Rattle.presence.specs.declared.Day.{Day}
@@ -57,3 +58,8 @@ pub record Turns (a : State) (ds : List Day) : Type 0 where
   pub figures : figures-sound a ≡ true
   pub before-end : a .day < 3833
   pub within : AtMost (units-over (min 123 (a .logged + 1)) ds) lifetime-most
+
+-- a plan whose fee and volume an allowance can be worked out from
+pub record Payable (p : Plan) : Type 0 where
+  pub money : p .fee ≤ 10000000
+  pub kilobytes : p .volume ≤ 1073741824

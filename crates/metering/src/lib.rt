@@ -1,15 +1,15 @@
 // All of the account but its log, and what each call makes of it: document 01, "Account and its calls" and "What each operation declines".
-use tariff::Units;
-use tariff::Kind;
-use tariff::Place;
-use tariff::Form;
-use tariff::Plan;
-use tariff::Allowance;
-use tariff::Verdict;
-use presence::Location;
 use presence::Day;
+use presence::Location;
 use presence::ServiceState;
 use presence::Services;
+use tariff::Allowance;
+use tariff::Form;
+use tariff::Kind;
+use tariff::Place;
+use tariff::Plan;
+use tariff::Units;
+use tariff::Verdict;
 ghost use mathlib.Core.Path.{_≡_};
 ghost use mathlib.Core.Bool.{Bool, true, false, cond, _&&_};
 ghost use Prim.Native.Nat.{ℕ, _+_, _-_, _*_, _≤_, _<_, min};
@@ -22,7 +22,7 @@ ghost use Rattle.metering.specs.Use.{billable, roaming, billed-of, surch
 ghost use Rattle.metering.specs.Moves.{opened-state, enters, renews, turns-month, registered, topped, next-state-of};
 ghost use Rattle.metering.specs.Sound.{allowance-fits, warning-fits, figures-sound, charges-sound};
 ghost use Rattle.metering.specs.Reasons.{use-state};
-ghost use Rattle.metering.specs.Needs.{bears, bill-of, Ready, Steady, Spends, Turns};
+ghost use Rattle.metering.specs.Needs.{bears, bill-of, Ready, Steady, Spends, Turns, Payable};
 
 // All of the account but its log. Amounts are points; `monthly` is H, `roamed` R and `allowance` L of document 01; `basis` are the sums of cap x surcharged units.
 pub struct State {
@@ -156,7 +156,12 @@ fn days_logged(start: u64, day: u64) -> u64
 pub fn figures_fit(a: State) -> bool
     ensures { λ r. ⌜ r ≡ figures-sound a ⌝ }
 {
-    let most = Units { kb: 1000000000000, outgoing: 1000000000000, incoming: 1000000000000, sms: 1000000000000 };
+    let most = Units {
+        kb: 1000000000000,
+        outgoing: 1000000000000,
+        incoming: 1000000000000,
+        sms: 1000000000000,
+    };
     let plan = a.plan;
     let lifetime = a.lifetime;
     let allowance = a.allowance;
@@ -234,14 +239,24 @@ fn bears_home_price(w: Location) -> bool
 fn billable_of(w: Location, u: Units) -> Units
     ensures { λ r. ⌜ r ≡ billable w u ⌝ }
 {
-    let none = Units { kb: 0, outgoing: 0, incoming: 0, sms: 0 };
+    let none = Units {
+        kb: 0,
+        outgoing: 0,
+        incoming: 0,
+        sms: 0,
+    };
     pick_units(bears_home_price(w), u, none)
 }
 
 fn roaming_of(w: Location, u: Units) -> Units
     ensures { λ r. ⌜ r ≡ roaming w u ⌝ }
 {
-    let none = Units { kb: 0, outgoing: 0, incoming: 0, sms: 0 };
+    let none = Units {
+        kb: 0,
+        outgoing: 0,
+        incoming: 0,
+        sms: 0,
+    };
     pick_units(presence::zone_at(w), u, none)
 }
 
@@ -250,7 +265,12 @@ fn billed_units(p: Plan, h: u64, u: Units) -> Units
 {
     let form = p.form;
     let kb = tariff::billed_of(form, p.volume, h, u.kb);
-    Units { kb: kb, outgoing: u.outgoing, incoming: 0, sms: u.sms }
+    Units {
+        kb: kb,
+        outgoing: u.outgoing,
+        incoming: 0,
+        sms: u.sms,
+    }
 }
 
 fn surcharged_part(s: ServiceState, past: u64, n: u64) -> u64
@@ -274,11 +294,16 @@ fn surcharged_of(s: Services, l: Allowance, r: u64, z: Units) -> Units
     let outgoing = surcharged_part(calls, 0, z.outgoing);
     let incoming = surcharged_part(calls, 0, z.incoming);
     let sms = surcharged_part(messages, 0, z.sms);
-    Units { kb: kb, outgoing: outgoing, incoming: incoming, sms: sms }
+    Units {
+        kb: kb,
+        outgoing: outgoing,
+        incoming: incoming,
+        sms: sms,
+    }
 }
 
 // What a use charged as c makes of the sums.
-fn work_out(a: State, c: Units) -> Bill
+pub fn work_out(a: State, c: Units) -> Bill
     requires { ⌜ Ready a c ⌝ }
     ensures { λ r. ⌜ r ≡ bill-of a c ⌝ }
 {
@@ -293,7 +318,13 @@ fn work_out(a: State, c: Units) -> Bill
     let basis = tariff::plus(a.basis, tariff::times(tariff::caps_of(a.day), fresh));
     let home = tariff::home_of(plan, billed);
     let extra = tariff::surcharges_from(basis);
-    Bill { billed: billed, fresh: fresh, basis: basis, home: home, extra: extra }
+    Bill {
+        billed: billed,
+        fresh: fresh,
+        basis: basis,
+        home: home,
+        extra: extra,
+    }
 }
 
 // All but the log after a use of the units, whose bill this is.
@@ -344,7 +375,12 @@ fn charge_on(a: State, k: Kind, u: Units, b: Bill) -> Charge
     let zone = roaming_of(place, u);
     let notice = notice_at(allowance, a.roamed, a.roamed + zone.kb);
     let surcharged = tariff::amount(k, b.fresh);
-    Charge { home: b.home - a.homecharges, extra: b.extra - a.surcharges, surcharged: surcharged, notice: notice }
+    Charge {
+        home: b.home - a.homecharges,
+        extra: b.extra - a.surcharges,
+        surcharged: surcharged,
+        notice: notice,
+    }
 }
 
 // Is n from l to h?
@@ -361,22 +397,37 @@ pub fn use_of(a: State, k: Kind, n: u64) -> StateUsed
 {
     let place = a.place;
     if !presence::placed(place) {
-        return StateUsed { answer: UseAnswer::Declined(3), state: a };
+        return StateUsed {
+            answer: UseAnswer::Declined(3),
+            state: a,
+        };
     }
     if !within(1, n, 1000000000) {
-        return StateUsed { answer: UseAnswer::Declined(4), state: a };
+        return StateUsed {
+            answer: UseAnswer::Declined(4),
+            state: a,
+        };
     }
     if tariff::amount(k, a.lifetime) + n > 1000000000000 {
-        return StateUsed { answer: UseAnswer::Declined(5), state: a };
+        return StateUsed {
+            answer: UseAnswer::Declined(5),
+            state: a,
+        };
     }
     let u = tariff::only_of(k, n);
     let b = work_out(a, u);
     if (b.home - a.homecharges) + (b.extra - a.surcharges) > a.credit {
-        return StateUsed { answer: UseAnswer::Declined(6), state: a };
+        return StateUsed {
+            answer: UseAnswer::Declined(6),
+            state: a,
+        };
     }
     let charge = charge_on(a, k, u, b);
     let next = spend(a, u, b);
-    StateUsed { answer: UseAnswer::Charged(charge), state: next }
+    StateUsed {
+        answer: UseAnswer::Charged(charge),
+        state: next,
+    }
 }
 
 // The allowance of a prepaid credit on a day.
@@ -406,7 +457,13 @@ pub fn registered_at(a: State, p: Place) -> State
     let allowance = pick_allowance(enters, fresh, old);
     let roamed = pick(enters, 0, a.roamed);
     let today = presence::marked(to, a.today);
-    State { place: to, roamed: roamed, allowance: allowance, today: today, ..a }
+    State {
+        place: to,
+        roamed: roamed,
+        allowance: allowance,
+        today: today,
+        ..a
+    }
 }
 
 // All but the log after a top-up.
@@ -425,7 +482,13 @@ pub fn topped_by(a: State, n: u64) -> State
     let fresh = allowance_on(credit, a.day);
     let allowance = pick_allowance(renews, fresh, old);
     let roamed = pick(renews, 0, a.roamed);
-    State { credit: credit, paid: a.paid + n, roamed: roamed, allowance: allowance, ..a }
+    State {
+        credit: credit,
+        paid: a.paid + n,
+        roamed: roamed,
+        allowance: allowance,
+        ..a
+    }
 }
 
 fn least(m: usize, n: usize) -> usize
@@ -456,21 +519,39 @@ pub fn next_from(a: State, log: [Day; 123]) -> State
     let roamed = pick(turns, 0, a.roamed);
     let today = presence::day_empty();
     let logged = n as u64;
-    State { day: day, monthly: monthly, roamed: roamed, allowance: allowance, today: today, logged: logged, services: services, ..a }
+    State {
+        day: day,
+        monthly: monthly,
+        roamed: roamed,
+        allowance: allowance,
+        today: today,
+        logged: logged,
+        services: services,
+        ..a
+    }
 }
 
 // All but the log of a newly opened account.
 pub fn opened_with(p: Plan) -> State
-    requires { ⌜ is-accepted (plan-verdict p) ≡ true ⌝ }
+    requires { ⌜ Payable p ⌝ }
     ensures { λ r. ⌜ r ≡ opened-state p ⌝ }
 {
-    let none = Units { kb: 0, outgoing: 0, incoming: 0, sms: 0 };
+    let none = Units {
+        kb: 0,
+        outgoing: 0,
+        incoming: 0,
+        sms: 0,
+    };
     let caps = tariff::caps_of(p.start);
     let allowance = tariff::allowance_of(p, caps.kb);
     let internet = ServiceState::Clear;
     let calls = ServiceState::Clear;
     let messages = ServiceState::Clear;
-    let services = Services { internet: internet, calls: calls, messages: messages };
+    let services = Services {
+        internet: internet,
+        calls: calls,
+        messages: messages,
+    };
     let today = presence::day_empty();
     let place = Location::Nowhere;
     State {

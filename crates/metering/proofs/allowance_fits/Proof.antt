@@ -1,22 +1,17 @@
+-- `metering::allowance_fits` meets its contract. Assumes nothing.
 use borrow.Author.Needs.{needs}
 use Rattle.metering.proofs.allowance_fits.Statement.{statement}
 use Rattle.metering.proofs.allowance_fits.Tie as tie
-use Rattle.metering.proofs.allowance_fits.Reads as reads
-use Rattle.metering.proofs.allowance_fits.Lts as lts
 
--- src/lib.rt:109:31
 enum-told : tie.Need-enum-told
 enum-told c = search needs
 
--- src/lib.rt:110:30
 enum-known-l : tie.Need-enum-known-l
 enum-known-l c = search needs
 
--- src/lib.rt:105:1
 returns : tie.Need-returns
 returns c = search needs
 
--- src/lib.rt:105:1
 returns-2 : tie.Need-returns-2
 returns-2 c = simp (c .before .l .given .1)
 

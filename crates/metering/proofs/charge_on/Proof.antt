@@ -1,46 +1,35 @@
+-- `metering::charge_on` meets its contract. Assumes nothing.
 use Rattle.tariff.specs.declared.Units.{Units}
 use Rattle.metering.specs.Use.{charge-of}
 use Rattle.metering.specs.Needs.{bill-of}
 use Rattle.metering.proofs.Billing.{Grown, grown, counted-in}
-use mathlib.Core.Path.{_≡_, ap}
+use mathlib.Core.Path.{ap}
 use native.Mathlib.Omega.{arith}
 use borrow.Author.Needs.{needs}
 use Rattle.metering.proofs.charge_on.Statement.{statement}
 use Rattle.metering.proofs.charge_on.Tie as tie
-use Rattle.metering.proofs.charge_on.Reads as reads
-use Rattle.metering.proofs.charge_on.Lts as lts
-use Rattle.metering.proofs.notice_at.Reads as notice-at-reads
-use Rattle.metering.proofs.roaming_of.Reads as roaming-of-reads
-use Rattle.tariff.proofs.amount.Reads as amount-reads
 
 charges : (c : tie.Start) → Grown (c .args .a) (c .args .b)
 charges c = rw (c .pre .bill-is) (grown (c .args .a) (c .args .u) (c .pre .steady) (c .pre .ready))
 
--- src/lib.rt:344:9
 roaming-of-requires : tie.Need-roaming-of-requires
 roaming-of-requires c κs = search needs
 
--- src/lib.rt:345:49
 add-notice-at : tie.Need-add-notice-at
 add-notice-at c = omega (arith, ap (λ (x : Units). x .kb) (c .before .before .roaming-of .ensures), counted-in (c .before .before .before .args .a) (c .before .before .before .args .u) (c .before .before .before .pre .ready))
 
--- src/lib.rt:345:9
 notice-at-requires : tie.Need-notice-at-requires
 notice-at-requires c κs = search needs
 
--- src/lib.rt:346:9
 amount-requires : tie.Need-amount-requires
 amount-requires c κs = search needs
 
--- src/lib.rt:347:20
 sub-t10 : tie.Need-sub-t10
 sub-t10 c = omega (arith, charges (c .before .before .before .before .before .before .before))
 
--- src/lib.rt:347:51
 sub-t11 : tie.Need-sub-t11
 sub-t11 c = omega (arith, charges (c .before .before .before .before .before .before .before .before .before))
 
--- src/lib.rt:338:1
 returns : tie.Need-returns
 unfolding charge-of bill-of
 returns c = simp (c .before .before .before .before .amount .ensures, c .before .before .before .before .before .notice-at .ensures, c .before .before .before .before .before .before .before .before .roaming-of .ensures, c .before .before .before .before .before .before .before .before .before .pre .bill-is)

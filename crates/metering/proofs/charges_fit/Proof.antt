@@ -1,3 +1,4 @@
+-- `metering::charges_fit` meets its contract. Assumes nothing.
 use Rattle.tariff.specs.Tests.{all}
 use Rattle.tariff.specs.Charges.{home-charges-of, surcharges-of}
 use Rattle.tariff.proofs.Tests.{and-false, eqb-ext}
@@ -5,49 +6,38 @@ use Rattle.tariff.proofs.Charges.{home-charges-bounded, surcharges-bounded}
 use Rattle.metering.specs.Sound.{charges-sound}
 use Rattle.metering.proofs.Soundness.{figures-tell, billed-held, basis-held}
 use borrow.Author.Tests.{eq-eqb, ne-eqb}
-use Prim.Native.Nat.{_+_, _-_, _≤_}
+use Prim.Native.Nat.{_+_, _-_}
 use mathlib.Core.Path.{_≡_, sym, _∙_}
 use native.Mathlib.Omega.{arith}
 use Rattle.metering.proofs.charges_fit.Statement.{statement}
 use Rattle.metering.proofs.charges_fit.Tie as tie
-use Rattle.metering.proofs.charges_fit.Reads as reads
-use Rattle.metering.proofs.charges_fit.Lts as lts
-use Rattle.tariff.proofs.home_of.Reads as home-of-reads
-use Rattle.tariff.proofs.surcharges_from.Reads as surcharges-from-reads
 
--- src/lib.rt:199:9
 home-of-requires : tie.Need-home-of-requires
 home-of-requires c κs = billed-held (c .args .a) (figures-tell (c .args .a) (c .pre))
 
--- src/lib.rt:200:9
 surcharges-from-requires : tie.Need-surcharges-from-requires
 surcharges-from-requires c κs = basis-held (c .before .args .a) (figures-tell (c .before .args .a) (c .before .pre))
 
--- src/lib.rt:202:9
 returns : tie.Need-returns
 unfolding charges-sound all
 returns c = let a = c .before .before .before .before .args .a in
     simp (ne-eqb (a .homecharges) (home-charges-of (a .plan) (a .billed)) (λ h. c .if1 .taken (h ∙ sym (c .before .before .before .home-of .ensures))))
 
--- src/lib.rt:205:9
 returns-2 : tie.Need-returns-2
 unfolding charges-sound all
 returns-2 c = let a = c .before .before .before .before .before .before .args .a in
     simp (ne-eqb (a .surcharges) (surcharges-of (a .basis)) (λ h. c .if2 .taken (h ∙ sym (c .before .before .before .before .surcharges-from .ensures))), and-false)
 
--- src/lib.rt:208:9
 returns-3 : tie.Need-returns-3
 unfolding charges-sound all
 returns-3 c = let a = c .before .before .before .before .before .before .before .before .args .a in
     simp (ne-eqb (a .paid) (a .credit + a .homecharges + a .surcharges) (λ h. omega arith), and-false)
 
--- src/lib.rt:210:26
 add-result : tie.Need-add-result
 add-result c = let d = c .before .before .before .before .before .before .before .before .before in
     let f = figures-tell (d .args .a) (d .pre) in
     omega (arith, c .before .before .before .before .before .before .before .before .home-of .ensures, c .before .before .before .before .before .before .before .surcharges-from .ensures, home-charges-bounded (d .args .a .plan) (d .args .a .billed) (billed-held (d .args .a) f), surcharges-bounded (d .args .a .basis) (basis-held (d .args .a) f))
 
--- src/lib.rt:195:1
 returns-4 : tie.Need-returns-4
 unfolding charges-sound all
 returns-4 c = let a = c .before .before .before .before .before .before .before .before .before .args .a in

@@ -1,3 +1,4 @@
+-- `metering::next_from` meets its contract. Assumes nothing.
 use native.Mathlib.Omega.{arith}
 use Prim.Native.Nat.{_+_}
 use Rattle.tariff.proofs.Caps.{caps-bound}
@@ -6,69 +7,45 @@ use Rattle.metering.proofs.Soundness.{figures-tell, plan-of-state}
 use borrow.Author.Needs.{needs}
 use Rattle.metering.proofs.next_from.Statement.{statement}
 use Rattle.metering.proofs.next_from.Tie as tie
-use Rattle.metering.proofs.next_from.Reads as reads
-use Rattle.metering.proofs.next_from.Lts as lts
-use Rattle.calendar.proofs.starts_month.Reads as starts-month-reads
-use Rattle.metering.proofs.least.Reads as least-reads
-use Rattle.metering.proofs.pick.Reads as pick-reads
-use Rattle.metering.proofs.pick_allowance.Reads as pick-allowance-reads
-use Rattle.presence.proofs.day_empty.Reads as day-empty-reads
-use Rattle.presence.proofs.services_next.Reads as services-next-reads
-use Rattle.tariff.proofs.allowance_of.Reads as allowance-of-reads
-use Rattle.tariff.proofs.caps_of.Reads as caps-of-reads
-use Rattle.tariff.proofs.prepaid.Reads as prepaid-reads
 
--- src/lib.rt:446:15
 add-day : tie.Need-add-day
 add-day c = search needs
 
--- src/lib.rt:447:24
 add-least : tie.Need-add-least
 add-least c = let f = figures-tell (c .before .before .before .args .a) (c .before .before .before .pre .figures) in omega (arith, f .logged-ok)
 
--- src/lib.rt:447:9
 least-requires : tie.Need-least-requires
 least-requires c κs = search needs
 
--- src/lib.rt:448:9
 services-next-requires : tie.Need-services-next-requires
 services-next-requires c κs = (rw (c .least .ensures) (omega arith), rw (c .least .ensures) (c .before .before .before .before .pre .within))
 
--- src/lib.rt:449:9
 prepaid-requires : tie.Need-prepaid-requires
 prepaid-requires c κs = search needs
 
--- src/lib.rt:450:9
 starts-month-requires : tie.Need-starts-month-requires
 starts-month-requires c κs = search needs
 
--- src/lib.rt:452:9
 caps-of-requires : tie.Need-caps-of-requires
 caps-of-requires c κs = search needs
 
--- src/lib.rt:453:9
 allowance-of-requires : tie.Need-allowance-of-requires
 allowance-of-requires c κs = let d = c .before .before .before .before .before .before .before .before in
     let r = plan-of-state (d .args .a) (figures-tell (d .args .a) (d .pre .figures)) in
     rw (c .caps-of .ensures) (omega (arith, r, caps-bound (d .args .a .day + 1)))
 
--- src/lib.rt:454:9
 pick-allowance-requires : tie.Need-pick-allowance-requires
 pick-allowance-requires c κs = search needs
 
--- src/lib.rt:455:9
 pick-requires : tie.Need-pick-requires
 pick-requires c κs = search needs
 
--- src/lib.rt:456:9
 pick-requires-2 : tie.Need-pick-requires-2
 pick-requires-2 c κs = search needs
 
--- src/lib.rt:457:9
 day-empty-requires : tie.Need-day-empty-requires
 day-empty-requires c κs = search needs
 
--- src/lib.rt:438:1
 returns : tie.Need-returns
 unfolding next-state-of turns-month
 returns c = simp (c .before .before .before .before .before .day-empty .ensures, c .before .before .before .before .before .before .pick2 .ensures, c .before .before .before .before .before .before .before .pick .ensures, c .before .before .before .before .before .before .before .before .pick-allowance .ensures, c .before .before .before .before .before .before .before .before .before .allowance-of .ensures, c .before .before .before .before .before .before .before .before .before .before .caps-of .ensures, c .before .before .before .before .before .before .before .before .before .before .before .starts-month .ensures, c .before .before .before .before .before .before .before .before .before .before .before .before .prepaid .ensures, c .before .before .before .before .before .before .before .before .before .before .before .before .before .services-next .ensures, c .before .before .before .before .before .before .before .before .before .before .before .before .before .before .least .ensures)

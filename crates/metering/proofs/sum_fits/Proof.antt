@@ -1,3 +1,4 @@
+-- `metering::sum_fits` meets its contract. Assumes nothing.
 use mathlib.Core.Path.{sym}
 use Prim.Native.Nat.{_*_}
 use borrow.Author.Tests.{le-leb}
@@ -5,18 +6,13 @@ use native.Mathlib.Omega.{arith}
 use borrow.Author.Needs.{needs}
 use Rattle.metering.proofs.sum_fits.Statement.{statement}
 use Rattle.metering.proofs.sum_fits.Tie as tie
-use Rattle.metering.proofs.sum_fits.Reads as reads
-use Rattle.metering.proofs.sum_fits.Lts as lts
 
--- src/lib.rt:129:9
 returns : tie.Need-returns
 returns c = sym (le-leb (c .before .args .c) (20000 * c .before .args .n) (omega arith))
 
--- src/lib.rt:131:10
 mul-result : tie.Need-mul-result
 mul-result c = search needs
 
--- src/lib.rt:125:1
 returns-2 : tie.Need-returns-2
 returns-2 c = search needs
 

@@ -1,29 +1,19 @@
-use Rattle.tariff.specs.declared.Units.{Units}
+-- `metering::use_of` meets its contract. Assumes nothing.
 use Rattle.tariff.specs.Tests.{between}
 use Rattle.tariff.specs.Units.{only, of-kind}
 use Rattle.presence.specs.Day.{is-placed}
-use Rattle.metering.specs.declared.Bill.{Bill}
 use Rattle.metering.specs.Use.{cost}
 use Rattle.metering.specs.Needs.{bill-of, Ready, Spends}
 use Rattle.metering.proofs.Billing.{Grown, grown, cost-is}
 use Rattle.metering.proofs.Verdicts.{used-3, used-4, used-5, used-6, used-yes, ready, few, kind-most}
 use borrow.Author.Tests.{not-true, not-false}
-use Prim.Native.Nat.{_+_, _-_, _≤_, _<_}
-use mathlib.Core.Bool.{true, false}
+use Prim.Native.Nat.{_+_, _-_, _≤_}
+use mathlib.Core.Bool.{true}
 use mathlib.Core.Path.{_≡_, sym, _∙_, ap}
 use native.Mathlib.Omega.{arith}
 use borrow.Author.Needs.{needs}
 use Rattle.metering.proofs.use_of.Statement.{statement}
 use Rattle.metering.proofs.use_of.Tie as tie
-use Rattle.metering.proofs.use_of.Reads as reads
-use Rattle.metering.proofs.use_of.Lts as lts
-use Rattle.metering.proofs.charge_on.Reads as charge-on-reads
-use Rattle.metering.proofs.spend.Reads as spend-reads
-use Rattle.metering.proofs.within.Reads as within-reads
-use Rattle.metering.proofs.work_out.Reads as work-out-reads
-use Rattle.presence.proofs.placed.Reads as placed-reads
-use Rattle.tariff.proofs.amount.Reads as amount-reads
-use Rattle.tariff.proofs.only_of.Reads as only-of-reads
 
 somewhere : (c : tie.Else1) → is-placed (c .before .before .args .a .place) ≡ true
 somewhere c = sym (c .before .placed .ensures) ∙ not-false (c .before .placed .result) (c .if1 .left)
@@ -56,67 +46,51 @@ spends c =
       affordable = rw e (omega (arith, cost-eq (c .before .before .before .before .before .before), c .if4 .left));
     }
 
--- src/lib.rt:363:9
 placed-requires : tie.Need-placed-requires
 placed-requires c κs = search needs
 
--- src/lib.rt:364:9
 returns : tie.Need-returns
 returns c = used-3 (c .before .before .args .a) (c .before .before .args .k) (c .before .before .args .n) (sym (c .before .placed .ensures) ∙ not-true (c .before .placed .result) (c .if1 .taken))
 
--- src/lib.rt:366:9
 within-requires : tie.Need-within-requires
 within-requires c κs = search needs
 
--- src/lib.rt:367:9
 returns-2 : tie.Need-returns-2
 returns-2 c = used-4 (c .before .before .before .before .args .a) (c .before .before .before .before .args .k) (c .before .before .before .before .args .n) (somewhere (c .before .before)) (sym (c .before .within .ensures) ∙ not-true (c .before .within .result) (c .if2 .taken))
 
--- src/lib.rt:369:8
 amount-requires : tie.Need-amount-requires
 amount-requires c κs = search needs
 
--- src/lib.rt:369:8
 add-if3 : tie.Need-add-if3
 add-if3 c = omega (arith, c .amount .ensures, kind-most (c .before .before .before .before .before .args .k) (c .before .before .before .before .before .args .a) (c .before .before .before .before .before .pre .figures), few (c .before .before .before .before .before .args .n) 1000000000 (in-range (c .before)))
 
--- src/lib.rt:370:9
 returns-3 : tie.Need-returns-3
 returns-3 c = used-5 (c .before .before .before .before .before .before .args .a) (c .before .before .before .before .before .before .args .k) (c .before .before .before .before .before .before .args .n) (somewhere (c .before .before .before .before)) (in-range (c .before .before)) (omega (arith, c .if3 .taken, c .before .amount .ensures))
 
--- src/lib.rt:372:9
 only-of-requires : tie.Need-only-of-requires
 only-of-requires c κs = search needs
 
--- src/lib.rt:373:9
 work-out-requires : tie.Need-work-out-requires
 work-out-requires c κs = rw (c .only-of .ensures) (is-ready (c .before))
 
--- src/lib.rt:374:9
 sub-if4 : tie.Need-sub-if4
 sub-if4 c = omega (arith, charges (c .before .before))
 
--- src/lib.rt:374:36
 sub-if4-2 : tie.Need-sub-if4-2
 sub-if4-2 c = omega (arith, charges (c .before .before .before .before))
 
--- src/lib.rt:374:8
 add-if4 : tie.Need-add-if4
 add-if4 c = omega (arith, charges (c .before .before .before .before))
 
--- src/lib.rt:375:9
 returns-4 : tie.Need-returns-4
 returns-4 c = used-6 (c .before .before .before .before .before .before .before .before .before .before .before .before .before .before .args .a) (c .before .before .before .before .before .before .before .before .before .before .before .before .before .before .args .k) (c .before .before .before .before .before .before .before .before .before .before .before .before .before .before .args .n) (somewhere (c .before .before .before .before .before .before .before .before .before .before .before .before)) (in-range (c .before .before .before .before .before .before .before .before .before .before)) (in-lifetime (c .before .before .before .before .before .before .before .before)) (omega (arith, cost-eq (c .before .before .before .before .before .before), c .if4 .taken))
 
--- src/lib.rt:377:9
 charge-on-requires : tie.Need-charge-on-requires
 charge-on-requires c κs = spends c
 
--- src/lib.rt:378:9
 spend-requires : tie.Need-spend-requires
 spend-requires c κs = spends (c .before)
 
--- src/lib.rt:358:1
 returns-5 : tie.Need-returns-5
 returns-5 c = let e = c .before .before .before .before .before .before .before .before .before .only-of .ensures in
     simp (c .spend .ensures, c .before .charge-on .ensures, e)

@@ -1,24 +1,14 @@
+-- `metering::work_out` meets its contract. Assumes nothing.
 use Rattle.tariff.specs.declared.Units.{Units}
 use Rattle.tariff.specs.Units.{_⊕_, _⊗_}
 use Rattle.tariff.specs.Caps.{caps-on}
-use Rattle.metering.specs.Use.{billable, roaming, billed-of, surcharged-units, billed-after, newly-surcharged, basis-after, home-after, extra-after}
+use Rattle.metering.specs.Use.{billable, billed-of, surcharged-units, billed-after, newly-surcharged, basis-after, home-after, extra-after}
 use Rattle.metering.specs.Needs.{bill-of}
 use Rattle.metering.proofs.Billing.{billed-sum, basis-product, basis-sum, price-fits, basis-fits}
 use mathlib.Core.Path.{_≡_, _∙_, ap, ap₂}
 use borrow.Author.Needs.{needs}
 use Rattle.metering.proofs.work_out.Statement.{statement}
 use Rattle.metering.proofs.work_out.Tie as tie
-use Rattle.metering.proofs.work_out.Reads as reads
-use Rattle.metering.proofs.work_out.Lts as lts
-use Rattle.metering.proofs.billable_of.Reads as billable-of-reads
-use Rattle.metering.proofs.billed_units.Reads as billed-units-reads
-use Rattle.metering.proofs.roaming_of.Reads as roaming-of-reads
-use Rattle.metering.proofs.surcharged_of.Reads as surcharged-of-reads
-use Rattle.tariff.proofs.caps_of.Reads as caps-of-reads
-use Rattle.tariff.proofs.home_of.Reads as home-of-reads
-use Rattle.tariff.proofs.plus.Reads as plus-reads
-use Rattle.tariff.proofs.surcharges_from.Reads as surcharges-from-reads
-use Rattle.tariff.proofs.times.Reads as times-reads
 
 billed-part : (c : tie.After-billed-units) → c .billed-units .result ≡ billed-of (c .before .before .before .before .before .args .a .plan) (c .before .before .before .before .before .args .a .monthly) (billable (c .before .before .before .before .before .args .a .place) (c .before .before .before .before .before .args .c))
 billed-part c = c .billed-units .ensures ∙ ap (billed-of (c .before .before .before .before .before .args .a .plan) (c .before .before .before .before .before .args .a .monthly)) (c .before .before .billable-of .ensures)
@@ -38,47 +28,36 @@ basis-eq : (c : tie.After-plus2) → c .plus2 .result ≡ basis-after (c .before
 unfolding basis-after
 basis-eq c = c .plus2 .ensures ∙ ap (λ (x : Units). c .before .before .before .before .before .before .before .before .before .before .args .a .basis ⊕ x) (times-eq (c .before))
 
--- src/lib.rt:289:9
 billable-of-requires : tie.Need-billable-of-requires
 billable-of-requires c κs = search needs
 
--- src/lib.rt:290:9
 roaming-of-requires : tie.Need-roaming-of-requires
 roaming-of-requires c κs = search needs
 
--- src/lib.rt:291:41
 billed-units-requires : tie.Need-billed-units-requires
 billed-units-requires c κs = search needs
 
--- src/lib.rt:291:9
 plus-requires : tie.Need-plus-requires
 plus-requires c κs = rw (billed-part c) (billed-sum _ _ (c .before .before .before .before .before .pre))
 
--- src/lib.rt:292:9
 surcharged-of-requires : tie.Need-surcharged-of-requires
 surcharged-of-requires c κs = search needs
 
--- src/lib.rt:293:53
 caps-of-requires : tie.Need-caps-of-requires
 caps-of-requires c κs = search needs
 
--- src/lib.rt:293:39
 times-requires : tie.Need-times-requires
 times-requires c κs = rw (c .caps-of .ensures, fresh-eq (c .before)) (basis-product _ _ (c .before .before .before .before .before .before .before .before .pre))
 
--- src/lib.rt:293:9
 plus-requires-2 : tie.Need-plus-requires-2
 plus-requires-2 c κs = rw (times-eq c) (basis-sum _ _ (c .before .before .before .before .before .before .before .before .before .pre))
 
--- src/lib.rt:294:9
 home-of-requires : tie.Need-home-of-requires
 home-of-requires c κs = rw (billed-eq (c .before .before .before .before)) (price-fits _ _ (c .before .before .before .before .before .before .before .before .before .before .pre))
 
--- src/lib.rt:295:9
 surcharges-from-requires : tie.Need-surcharges-from-requires
 surcharges-from-requires c κs = rw (basis-eq (c .before)) (basis-fits _ _ (c .before .before .before .before .before .before .before .before .before .before .before .pre))
 
--- src/lib.rt:281:1
 returns : tie.Need-returns
 unfolding bill-of home-after extra-after
 returns c = simp (c .surcharges-from .ensures, c .before .home-of .ensures, basis-eq (c .before .before), fresh-eq (c .before .before .before .before .before), billed-eq (c .before .before .before .before .before .before))

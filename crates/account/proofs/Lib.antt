@@ -1,0 +1,3 @@
+pub mod Parts
+pub mod Returns
+pub mod Kept

@@ -1,0 +1,67 @@
+-- What soundness tells, part by part. Assumes nothing.
+use Prim.Native.Nat.{ℕ, _+_, _≤_, _<_, min}
+use mathlib.Core.Path.{_≡_}
+use mathlib.Core.Bool.{Bool, true}
+use mathlib.Core.List.{List, [], _∷_}
+use native.Mathlib.Numerals.{add-one}
+use native.Mathlib.Omega.{arith}
+use lib.ListN.{drop}
+use Rattle.tariff.specs.declared.Units.{Units}
+use Rattle.tariff.specs.Tests.{all}
+use Rattle.tariff.specs.Units.{_⊕_, AtMost}
+use Rattle.tariff.proofs.Tests.{all-nil, all-cons, all-head, all-tail}
+use Rattle.tariff.proofs.Sums.{fits-tells, fits-yes}
+use Rattle.presence.specs.declared.Day.{Day}
+use Rattle.presence.specs.Day.{day-units, joined}
+use Rattle.presence.specs.Log.{units-over, all-blank, log-within}
+use Rattle.presence.proofs.Logs.{over-joined}
+use Rattle.metering.specs.Sound.{figures-sound, charges-sound}
+use Rattle.metering.specs.Needs.{Steady, Turns}
+use Rattle.metering.proofs.Soundness.{Figures, figures-tell, Balanced, charges-tell}
+use Rattle.account.specs.declared.Account.{Account}
+use Rattle.account.specs.Whole.{sound}
+
+-- the log's part
+pub record Logged (ds : List Day) (today : Day) (n : ℕ) (lifetime : Units) : Type 0 where
+  pub days-ok : AtMost (day-units today ⊕ units-over n ds) lifetime
+  pub rest-ok : all-blank (drop n ds) ≡ true
+
+pub log-tells : (ds : List Day) (today : Day) (n : ℕ) (lifetime : Units) → log-within ds today n lifetime ≡ true → Logged ds today n lifetime
+unfolding log-within
+log-tells ds today n lifetime e = record { days-ok = fits-tells _ _ (all-head _ _ e); rest-ok = all-head _ _ (all-tail _ _ e) }
+
+pub log-passes : (ds : List Day) (today : Day) (n : ℕ) (lifetime : Units) → Logged ds today n lifetime → log-within ds today n lifetime ≡ true
+unfolding log-within
+log-passes ds today n lifetime s = all-cons _ _ (fits-yes _ _ (s .days-ok)) (all-cons _ _ (s .rest-ok) all-nil)
+
+module _ (a : Account) (s : sound a ≡ true) where
+  pub has-figures : figures-sound (a .state) ≡ true
+  unfolding sound
+  has-figures = all-head _ _ s
+
+  pub has-charges : charges-sound (a .state) ≡ true
+  unfolding sound
+  has-charges = all-head _ _ (all-tail _ _ s)
+
+  pub has-log : Logged (a .log) (a .state .today) (a .state .logged) (a .state .lifetime)
+  unfolding sound
+  has-log = log-tells _ _ _ _ (all-head _ _ (all-tail _ _ (all-tail _ _ s)))
+
+  pub steady : Steady (a .state)
+  steady = record { figures = has-figures; charges = has-charges; today = omega (arith, has-log .days-ok) }
+
+  pub credit-most : a .state .credit ≤ a .state .paid
+  credit-most = omega (arith, charges-tell (a .state) has-charges .balance)
+
+  pub paid-most : a .state .paid ≤ 1000000000
+  paid-most = figures-tell (a .state) has-figures .paid-ok
+
+  pub turns : a .state .day < 3833 → Turns (a .state) (joined (a .state .today) (a .log))
+  turns h =
+      let f = figures-tell (a .state) has-figures in
+      let o = over-joined (a .state .logged) (a .state .today) (a .log) (omega (arith, f .logged-ok)) in
+      record {
+        figures = has-figures;
+        before-end = h;
+        within = rw (add-one (a .state .logged)) (omega (arith, o, has-log .days-ok, f .lifetime-ok));
+      }

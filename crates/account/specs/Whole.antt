@@ -1,0 +1,43 @@
+-- 01, "Account and its calls": the whole account with its log, when it is sound, and what each accepted call makes of it. Assumes nothing.
+use Prim.Native.Nat.{ℕ}
+use mathlib.Core.Bool.{Bool}
+use mathlib.Core.List.{List, [], _∷_}
+use lib.ListN.{replicate}
+use Rattle.tariff.specs.declared.Units.{Units}
+use Rattle.tariff.specs.declared.Place.{Place}
+use Rattle.tariff.specs.declared.Plan.{Plan}
+use Rattle.tariff.specs.Tests.{all}
+use Rattle.presence.specs.Day.{empty-day, joined}
+use Rattle.presence.specs.Log.{log-within}
+use Rattle.metering.specs.Use.{spent}
+use Rattle.metering.specs.Moves.{opened-state, registered, topped, next-state-of}
+use Rattle.metering.specs.Sound.{figures-sound, charges-sound}
+use Rattle.account.specs.declared.Account.{Account}
+
+-- "An account is sound if": its figures, its charges and balance, its log
+unfoldable pub sound : Account → Bool
+sound a = all
+    (figures-sound (a .state)
+    ∷ charges-sound (a .state)
+    ∷ log-within (a .log) (a .state .today) (a .state .logged) (a .state .lifetime)
+    ∷ [])
+
+-- an account as Open returns it, with an empty log
+unfoldable pub opened : Plan → Account
+opened p = record { state = opened-state p; log = replicate 123 empty-day }
+
+-- Register
+unfoldable pub register-at : Account → Place → Account
+register-at a p = record { state = registered (a .state) p; log = a .log }
+
+-- Use, as a spend of a vector of units
+unfoldable pub spend : Account → Units → Account
+spend a u = record { state = spent (a .state) u u; log = a .log }
+
+-- Top-up
+unfoldable pub top-up-by : Account → ℕ → Account
+top-up-by a n = record { state = topped (a .state) n; log = a .log }
+
+-- Next day: today joins the log, then the rest follows from the log with it
+unfoldable pub day-after : Account → Account
+day-after a = record { state = next-state-of (a .state) (joined (a .state .today) (a .log)); log = joined (a .state .today) (a .log) }
