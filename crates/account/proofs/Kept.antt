@@ -256,7 +256,7 @@ sound-step a c s = go (accepts a c) refl
     go true e = sound-after a c e s
     go false e = s
 
-worked-none : (p : Plan) → Worked (opened-state p)
+pub worked-none : (p : Plan) → Worked (opened-state p)
 unfolding opened-state home-charges-of surcharges-of
 worked-none p = record { home-is = nothing (p .pergb) (p .perminute) (p .persms); extra-is = refl }
   where

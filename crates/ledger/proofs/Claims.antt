@@ -1,0 +1,62 @@
+-- Demand 3, and the match from any sound account. Assumes nothing.
+use mathlib.Core.Path.{_≡_, refl, sym, _∙_, ap, subst}
+use mathlib.Core.Bool.{Bool, true, false, cond}
+use mathlib.Core.List.{List, [], _∷_}
+use Rattle.tariff.specs.declared.Plan.{Plan}
+use Rattle.tariff.specs.declared.Verdict.{Verdict}
+use Rattle.tariff.specs.declared.Verdict.the-variants.{Accepted, Refused}
+use Rattle.tariff.specs.Tests.{is-accepted}
+use Rattle.tariff.specs.Plan.{plan-verdict}
+use Rattle.account.specs.declared.Account.{Account}
+use Rattle.account.specs.declared.Answered.{Answered}
+use Rattle.account.specs.declared.Call.{Call}
+use Rattle.account.specs.Whole.{sound, opened}
+use Rattle.account.specs.Calls.{step}
+use Rattle.account.specs.Answers.{open-answer}
+use Rattle.account.proofs.Kept.{Sound, sound-tells, sound-passes, sound-step, sound-opened, worked-none}
+use Rattle.ledger.specs.Lists.{run, accepted, boundaries, segments, snapshots}
+use Rattle.ledger.specs.Demand3.{Demand3, MatchesFromSound, Matches, OpensAs, Shown, entries-of}
+use Rattle.ledger.proofs.Match.{matching}
+use Rattle.ledger.proofs.Book.{balanced}
+
+sound-run : (a : Account) (cs : List Call) → Sound a → Sound (run a cs)
+unfolding run
+sound-run a [] s = s
+sound-run a (c ∷ cs) s = sound-run (step a c) cs (sound-step a c s)
+
+-- every account that a list leads to from a sound one is sound
+pub always-sound : (a : Account) (cs : List Call) → sound a ≡ true → sound (run a cs) ≡ true
+always-sound a cs s = sound-passes (run a cs) (sound-run a cs (sound-tells a s))
+
+-- an account that Open handed out is the newly opened one, and its plan was accepted
+opened-plan : (p : Plan) (a : Account) → OpensAs p a → plan-verdict p ≡ Accepted
+unfolding open-answer
+opened-plan p a e = ap (λ (r : Answered). r .answer) e
+
+opened-is : (p : Plan) (a : Account) → OpensAs p a → opened p ≡ a
+unfolding open-answer
+opened-is p a e =
+    let v : plan-verdict p ≡ Accepted = opened-plan p a e in
+    let r = ap (λ (r : Answered). r .account) e in
+    rw v at r
+
+opened-sound : (p : Plan) (a : Account) → OpensAs p a → sound (opened p) ≡ true
+opened-sound p a e =
+    let v : plan-verdict p ≡ Accepted = opened-plan p a e in
+    let b : is-accepted (plan-verdict p) ≡ true = rw v refl in
+    sound-passes (opened p) (sound-opened p b)
+
+pub matches-from-sound : MatchesFromSound
+matches-from-sound a s xs ys e = matching a (sound-tells a s .money .worked) xs ys e
+
+pub demand-3 : Demand3
+demand-3 p a b e f xs ys =
+    let x : opened p ≡ a = opened-is p a e in
+    let y : opened p ≡ b = opened-is p b f in
+    let q : a ≡ b = sym x ∙ y in
+    let s : sound a ≡ true = ap sound (sym x) ∙ opened-sound p a e in
+    record {
+      matched = subst (λ (z : Account). Matches a z xs ys) q (matches-from-sound a s xs ys);
+      shown = subst (λ (z : Account). Shown p (run z xs) (entries-of p z xs)) x (balanced p xs);
+      stays-sound = always-sound a xs s;
+    }

@@ -1,0 +1,3 @@
+pub mod Lists
+pub mod Journal
+pub mod Demand3
