@@ -1,3 +1,4 @@
 pub mod Parts
 pub mod Returns
 pub mod Kept
+pub mod Affords

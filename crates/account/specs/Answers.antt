@@ -1,22 +1,28 @@
 -- What each call answers, beside the account that it hands back. Assumes nothing.
-use Prim.Native.Nat.{ℕ}
-use mathlib.Core.Bool.{cond}
+use Prim.Native.Nat.{ℕ, _<_}
+use mathlib.Core.Path.{_≡_}
+use mathlib.Core.Bool.{Bool, true, false, cond}
 use Rattle.tariff.specs.declared.Kind.{Kind}
 use Rattle.tariff.specs.declared.Form.the-variants.{Prepaid}
 use Rattle.tariff.specs.declared.Plan.{Plan}
 use Rattle.tariff.specs.declared.Verdict.{Verdict}
+use Rattle.tariff.specs.declared.Verdict.the-variants.{Accepted, Refused}
 use Rattle.tariff.specs.Tests.{is-accepted}
 use Rattle.tariff.specs.Units.{only}
 use Rattle.tariff.specs.Plan.{plan-verdict}
+use Rattle.afford.specs.Largest.{largest}
 use Rattle.metering.specs.Use.{charge-of}
 use Rattle.metering.specs.Reasons.{use-answer}
 use Rattle.account.specs.declared.Account.{Account}
 use Rattle.account.specs.declared.Used.{Used}
 use Rattle.account.specs.declared.Answered.{Answered}
+use Rattle.account.specs.declared.AffordAnswer.{AffordAnswer}
+use Rattle.account.specs.declared.AffordAnswer.the-variants.{UpTo, Withheld}
+use Rattle.account.specs.declared.Afforded.{Afforded}
 use Rattle.account.specs.declared.Call.{Call}
-use Rattle.account.specs.declared.Call.the-variants.{Use}
+use Rattle.account.specs.declared.Call.the-variants.{Use, Afford}
 use Rattle.account.specs.Whole.{opened}
-use Rattle.account.specs.Calls.{verdict, step}
+use Rattle.account.specs.Calls.{verdict, accepts, step}
 
 -- no plan: what stands in an account where Open was refused. Its start day is out of range, so every call on such an account is refused with 0.
 abbrev pub no-plan : Plan
@@ -33,3 +39,20 @@ use-result a k n = record { answer = use-answer (verdict a (Use k n)) (charge-of
 -- a registration, a top-up or a day change: accepted, or 01's number
 unfoldable pub answer-of : Account → Call → Answered
 answer-of a c = record { answer = verdict a c; account = step a c }
+
+-- "Afford(kind): the largest n for which Use is accepted, 0 if none." No n over 1,000,000,000 is accepted.
+unfoldable pub afford-of : Account → Kind → ℕ
+afford-of a k = largest (λ n. accepts a (Use k n)) 1000000000
+
+-- Afford: that number, or 01's
+abbrev pub afford-answer : Verdict → ℕ → AffordAnswer
+afford-answer Accepted n = UpTo n
+afford-answer (Refused r) n = Withheld r
+
+unfoldable pub afford-result : Account → Kind → Afforded
+afford-result a k = record { answer = afford-answer (verdict a (Afford k)) (afford-of a k); account = step a (Afford k) }
+
+-- r is accepted, unless it is 0, and nothing larger is
+pub record Affordable (a : Account) (k : Kind) (r : ℕ) : Type 0 where
+  pub passes : 0 < r → accepts a (Use k r) ≡ true
+  pub none-larger : (m : ℕ) → r < m → accepts a (Use k m) ≡ false

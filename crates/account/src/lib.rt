@@ -11,7 +11,7 @@ ghost use mathlib.Core.Path.{_≡_};
 ghost use mathlib.Core.Bool.{Bool, true, false};
 ghost use Rattle.account.specs.Whole.{sound, opened};
 ghost use Rattle.metering.specs.Needs.{Payable};
-ghost use Rattle.account.specs.Answers.{open-answer, use-result, answer-of};
+ghost use Rattle.account.specs.Answers.{open-answer, use-result, answer-of, afford-result};
 
 // All but the log, and the log of the last 123 days, newest first; its places past the logged days are empty.
 pub struct Account {
@@ -31,6 +31,17 @@ pub enum Call {
 // What a use answers, with the account.
 pub struct Used {
     pub answer: UseAnswer,
+    pub account: Account,
+}
+
+// The largest use that is accepted, or the number that declines to say.
+pub enum AffordAnswer {
+    UpTo(u64),
+    Withheld(u64),
+}
+
+pub struct Afforded {
+    pub answer: AffordAnswer,
     pub account: Account,
 }
 
@@ -190,6 +201,31 @@ impl Account {
         self.log = log;
         Answered {
             answer: Verdict::Accepted,
+            account: self,
+        }
+    }
+
+    // Refusals 0, 3.
+    pub fn afford(mut self, k: Kind) -> Afforded
+        ensures { λ r. ⌜ r ≡ afford-result self k ⌝ }
+    {
+        if !self.is_sound() {
+            return Afforded {
+                answer: AffordAnswer::Withheld(0),
+                account: self,
+            };
+        }
+        let state = self.state;
+        let place = state.place;
+        if !presence::placed(place) {
+            return Afforded {
+                answer: AffordAnswer::Withheld(3),
+                account: self,
+            };
+        }
+        let n = afford::most_of(state, k);
+        Afforded {
+            answer: AffordAnswer::UpTo(n),
             account: self,
         }
     }

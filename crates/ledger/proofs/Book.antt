@@ -198,8 +198,8 @@ module _ (a : Account) (is : List Entry) (g : Agrees a is) where
       let i : Entry = entry a NextDay in
       let s : a .state .plan .start + past-days a ≡ a .state .day = omega (arith, g .started) in
       let l : joined (a .state .today) (a .log) ≡ last-days (day-of (a .state .day) (i ∷ is) ∷ days (a .state .plan .start) (past-days a) (i ∷ is)) =
-        ap₂ joined (g .today-is ∙ day-quiet is (a .state .day) NextDay (a .state .place) refl refl) (log-step a i is refl g)
-        ∙ joined-last (day-of (a .state .day) (i ∷ is)) (days (a .state .plan .start) (past-days a) (i ∷ is)) in
+      ap₂ joined (g .today-is ∙ day-quiet is (a .state .day) NextDay (a .state .place) refl refl) (log-step a i is refl g)
+      ∙ joined-last (day-of (a .state .day) (i ∷ is)) (days (a .state .plan .start) (past-days a) (i ∷ is)) in
       rw s l
 
   logged-next : min 123 (a .state .logged + 1) ≡ min 123 (suc (past-days a))

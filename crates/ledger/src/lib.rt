@@ -1,1 +1,1 @@
-// Lists of calls and the book: document 01, "Lists of calls and the book".
+// Lists of calls and the book: definitions and the proof of demand 3, no code.

@@ -1,0 +1,62 @@
+-- What Afford returns, and that it is the largest use that is accepted. Assumes nothing.
+use Prim.Native.Nat.{ℕ, _≤_, _<_}
+use mathlib.Core.Path.{_≡_, refl, sym, _∙_, ap}
+use mathlib.Core.Bool.{Bool, true, false, not, cond, _&&_}
+use lib.Dec.{leb}
+use borrow.Author.Tests.{leb-true, leb-false, lt-leb}
+use Rattle.tariff.specs.declared.Kind.{Kind}
+use Rattle.tariff.specs.declared.Verdict.the-variants.{Accepted, Refused}
+use Rattle.tariff.specs.Tests.{verdict-of, is-accepted}
+use Rattle.tariff.proofs.Tests.{and-false}
+use Rattle.presence.specs.Day.{is-placed}
+use Rattle.metering.specs.Reasons.{use-reasons}
+use Rattle.afford.specs.Largest.{largest, use-accepted, most-units}
+use Rattle.afford.proofs.Search.{largest-same, largest-passes, largest-last}
+use Rattle.account.specs.declared.Account.{Account}
+use Rattle.account.specs.declared.AffordAnswer.the-variants.{UpTo, Withheld}
+use Rattle.account.specs.declared.Afforded.{Afforded}
+use Rattle.account.specs.declared.Call.the-variants.{Use, Afford}
+use Rattle.account.specs.Whole.{sound}
+use Rattle.account.specs.Calls.{own-reasons, reasons, verdict, accepts, after, step}
+use Rattle.account.specs.Answers.{afford-of, afford-result, Affordable}
+
+pub afford-unsound : (a : Account) (k : Kind) → sound a ≡ false → _≡_ {A = Afforded} (record { answer = Withheld 0; account = a }) (afford-result a k)
+unfolding afford-result verdict reasons verdict-of step accepts
+afford-unsound a k s = rw s refl
+
+accepts-is : (a : Account) (k : Kind) (n : ℕ) → sound a ≡ true → accepts a (Use k n) ≡ use-accepted (a .state) k n
+unfolding accepts verdict reasons own-reasons verdict-of use-accepted
+accepts-is a k n s = rw s refl
+
+afford-is : (a : Account) (k : Kind) → sound a ≡ true → afford-of a k ≡ most-units (a .state) k
+unfolding afford-of most-units
+afford-is a k s = largest-same (λ n. accepts a (Use k n)) (use-accepted (a .state) k) 1000000000 (λ n. accepts-is a k n s)
+
+module _ (a : Account) (k : Kind) (s : sound a ≡ true) where
+  pub afford-nowhere : is-placed (a .state .place) ≡ false → _≡_ {A = Afforded} (record { answer = Withheld 3; account = a }) (afford-result a k)
+  unfolding afford-result verdict reasons own-reasons verdict-of step accepts
+  afford-nowhere p = rw (s, p) refl
+
+  pub afford-yes : (r : ℕ) → is-placed (a .state .place) ≡ true → r ≡ most-units (a .state) k → _≡_ {A = Afforded} (record { answer = UpTo r; account = a }) (afford-result a k)
+  unfolding afford-result verdict reasons own-reasons verdict-of step accepts after
+  afford-yes r p e =
+      let q : r ≡ afford-of a k = e ∙ sym (afford-is a k s) in
+      rw (s, p, ← q) refl
+
+-- refusal 4 holds for every larger number
+refused-many : (a : Account) (k : Kind) (n : ℕ) → 1000000000 < n → accepts a (Use k n) ≡ false
+unfolding accepts verdict reasons own-reasons use-reasons verdict-of
+refused-many a k n h = rw (lt-leb n 1000000000 h, and-false (leb 1 n)) (go (sound a) (is-placed (a .state .place)))
+  where
+    go : (b c : Bool) → is-accepted (cond (not b) (Refused 0) (cond (not c) (Refused 3) (Refused 4))) ≡ false
+    go true true = refl
+    go true false = refl
+    go false c = refl
+
+pub afford-is-largest : (a : Account) (k : Kind) → Affordable a k (afford-of a k)
+unfolding afford-of
+afford-is-largest a k = record { passes = largest-passes (λ n. accepts a (Use k n)) 1000000000; none-larger = λ m h. go m h (leb m 1000000000) refl }
+  where
+    go : (m : ℕ) → largest (λ n. accepts a (Use k n)) 1000000000 < m → (b : Bool) → leb m 1000000000 ≡ b → accepts a (Use k m) ≡ false
+    go m h true e = largest-last (λ n. accepts a (Use k n)) 1000000000 m h (leb-true m 1000000000 e)
+    go m h false e = refused-many a k m (leb-false m 1000000000 e)

@@ -1,0 +1,38 @@
+// The largest use that the account affords: document 01, "Account and its calls", Afford.
+use metering::State;
+use tariff::Kind;
+ghost use mathlib.Core.Path.{_≡_};
+ghost use mathlib.Core.Bool.{Bool, true, false};
+ghost use Rattle.presence.specs.Day.{is-placed};
+ghost use Rattle.metering.specs.Needs.{Steady};
+ghost use Rattle.afford.specs.Largest.{use-accepted, most-units, Tries};
+
+// May a sound account, somewhere, use n units?
+fn affords(a: State, k: Kind, n: u64) -> bool
+    requires { ⌜ Tries a n ⌝ }
+    ensures { λ r. ⌜ r ≡ use-accepted a k n ⌝ }
+{
+    if tariff::amount(k, a.lifetime) + n > 1000000000000 {
+        return false;
+    }
+    let b = metering::work_out(a, tariff::only_of(k, n));
+    (b.home - a.homecharges) + (b.extra - a.surcharges) <= a.credit
+}
+
+// The largest use that a sound account, somewhere, may make: by halving, in some 30 steps.
+pub fn most_of(a: State, k: Kind) -> u64
+    requires { ⌜ Steady a × (is-placed (a .place) ≡ true) ⌝ }
+    ensures { λ r. ⌜ r ≡ most-units a k ⌝ }
+{
+    let mut lo: u64 = 0;
+    let mut hi: u64 = 1000000000;
+    while lo < hi {
+        let mid = lo + (hi - lo + 1) / 2;
+        if affords(a, k, mid) {
+            lo = mid;
+        } else {
+            hi = mid - 1;
+        }
+    }
+    lo
+}

@@ -1,0 +1,247 @@
+// One call of any kind, and calls as the trip file codes them, run one after the other. Document 01, "Lists of calls and the book".
+use account::Account;
+use account::AffordAnswer;
+use account::Call;
+use metering::Charge;
+use metering::UseAnswer;
+use tariff::Kind;
+use tariff::Place;
+use tariff::Verdict;
+ghost use mathlib.Core.Path.{_≡_};
+ghost use mathlib.Core.Bool.{Bool, true, false};
+ghost use Prim.Native.Nat.{ℕ, _+_, _≤_, _<_, min};
+ghost use lib.ListN.{length};
+ghost use Rattle.metering.specs.Reasons.{use-answer};
+ghost use Rattle.replay.specs.Replay.{applied, answer-by, from-use, from-afford, count-refused, register-code, other-code, coded, replay-step, replay-of};
+
+// What a call answers.
+pub enum Answer {
+    Done,
+    Charged(Charge),
+    UpTo(u64),
+    Declined(u64),
+}
+
+pub struct Applied {
+    pub answer: Answer,
+    pub account: Account,
+}
+
+// What a code and a number stand for.
+pub enum Coded {
+    Known(Call),
+    Unknown,
+}
+
+// An account after some calls, and how many of them were refused.
+pub struct Replayed {
+    pub account: Account,
+    pub refused: usize,
+}
+
+fn plain_answer(v: Verdict) -> Answer
+    ensures { λ r. ⌜ r ≡ answer-by v Answer.Done ⌝ }
+{
+    match v {
+        Verdict::Accepted => Answer::Done,
+        Verdict::Refused(n) => Answer::Declined(n),
+    }
+}
+
+fn use_answer(u: UseAnswer) -> Answer
+    ensures { λ r. ⌜ r ≡ from-use u ⌝ }
+{
+    match u {
+        UseAnswer::Charged(c) => Answer::Charged(c),
+        UseAnswer::Declined(n) => Answer::Declined(n),
+    }
+}
+
+fn afford_answer(u: AffordAnswer) -> Answer
+    ensures { λ r. ⌜ r ≡ from-afford u ⌝ }
+{
+    match u {
+        AffordAnswer::UpTo(n) => Answer::UpTo(n),
+        AffordAnswer::Withheld(n) => Answer::Declined(n),
+    }
+}
+
+// One call on an account: its answer, and the account.
+pub fn apply(a: Account, c: Call) -> Applied
+    ensures { λ r. ⌜ r ≡ applied a c ⌝ }
+{
+    match c {
+        Call::Register(p) => {
+            let r = a.register(p);
+            let v = r.answer;
+            let next = r.account;
+            Applied {
+                answer: plain_answer(v),
+                account: next,
+            }
+        }
+        Call::Use(k, n) => {
+            let r = a.use_units(k, n);
+            let u = r.answer;
+            let next = r.account;
+            Applied {
+                answer: use_answer(u),
+                account: next,
+            }
+        }
+        Call::TopUp(n) => {
+            let r = a.top_up(n);
+            let v = r.answer;
+            let next = r.account;
+            Applied {
+                answer: plain_answer(v),
+                account: next,
+            }
+        }
+        Call::NextDay => {
+            let r = a.next_day();
+            let v = r.answer;
+            let next = r.account;
+            Applied {
+                answer: plain_answer(v),
+                account: next,
+            }
+        }
+        Call::Afford(k) => {
+            let r = a.afford(k);
+            let u = r.answer;
+            let next = r.account;
+            Applied {
+                answer: afford_answer(u),
+                account: next,
+            }
+        }
+    }
+}
+
+fn register_coded(n: u32) -> Coded
+    ensures { λ r. ⌜ r ≡ register-code n ⌝ }
+{
+    if n == 0 {
+        let p = Place::Home;
+        let c = Call::Register(p);
+        return Coded::Known(c);
+    }
+    if n == 1 {
+        let p = Place::Zone;
+        let c = Call::Register(p);
+        return Coded::Known(c);
+    }
+    if n == 2 {
+        let p = Place::Elsewhere;
+        let c = Call::Register(p);
+        return Coded::Known(c);
+    }
+    Coded::Unknown
+}
+
+fn use_coded(k: Kind, n: u32) -> Coded
+    ensures { λ r. ⌜ r ≡ Coded.Known (Call.Use k n) ⌝ }
+{
+    let m = n as u64;
+    let c = Call::Use(k, m);
+    Coded::Known(c)
+}
+
+fn other_coded(code: u32, n: u32) -> Coded
+    ensures { λ r. ⌜ r ≡ other-code code n ⌝ }
+{
+    if code == 6 {
+        let m = n as u64;
+        let c = Call::TopUp(m);
+        return Coded::Known(c);
+    }
+    if (code == 7) & (n == 0) {
+        let c = Call::NextDay;
+        return Coded::Known(c);
+    }
+    Coded::Unknown
+}
+
+// The call that a code and a number stand for.
+pub fn decode(code: u32, n: u32) -> Coded
+    ensures { λ r. ⌜ r ≡ coded code n ⌝ }
+{
+    if code == 1 {
+        return register_coded(n);
+    }
+    if code == 2 {
+        return use_coded(Kind::Data, n);
+    }
+    if code == 3 {
+        return use_coded(Kind::Outgoing, n);
+    }
+    if code == 4 {
+        return use_coded(Kind::Incoming, n);
+    }
+    if code == 5 {
+        return use_coded(Kind::Sms, n);
+    }
+    other_coded(code, n)
+}
+
+fn one_if_refused(x: Answer) -> usize
+    ensures { λ r. ⌜ (r ≡ count-refused x) × (r ≤ 1) ⌝ }
+{
+    match x {
+        Answer::Done => 0,
+        Answer::Charged(_) => 0,
+        Answer::UpTo(_) => 0,
+        Answer::Declined(_) => 1,
+    }
+}
+
+// One more coded call.
+pub fn replay_one(t: Replayed, x: Coded) -> Replayed
+    requires { ⌜ t .refused < 18446744073709551615 ⌝ }
+    ensures { λ r. ⌜ r ≡ replay-step t x ⌝ }
+{
+    match x {
+        Coded::Known(c) => {
+            let a = t.account;
+            let r = apply(a, c);
+            let x = r.answer;
+            let next = r.account;
+            let n = one_if_refused(x);
+            Replayed {
+                account: next,
+                refused: t.refused + n,
+            }
+        }
+        Coded::Unknown => {
+            let a = t.account;
+            Replayed {
+                account: a,
+                refused: t.refused + 1,
+            }
+        }
+    }
+}
+
+fn lesser(m: usize, n: usize) -> usize
+    ensures { λ r. ⌜ r ≡ min m n ⌝ }
+{
+    if m < n { m } else { n }
+}
+
+// All the calls that codes and numbers stand for, on an account.
+pub fn replay(a: Account, codes: &[u32], numbers: &[u32]) -> Replayed
+    ensures { λ r. ⌜ r ≡ replay-of a (now (codes .entry)) (now (numbers .entry)) ⌝ }
+{
+    let mut t = Replayed {
+        account: a,
+        refused: 0,
+    };
+    let n = lesser(codes.len(), numbers.len());
+    let mut i: usize = 0;
+    while i < n {
+        t = replay_one(t, decode(codes[i], numbers[i]));
+        i += 1;
+    }
+    t
+}

@@ -1,0 +1,3 @@
+pub mod Verdicts
+pub mod Table
+pub mod Finding

@@ -1,0 +1,51 @@
+-- `sections::find` meets its contract. Assumes nothing.
+use mathlib.Core.Path.{sym, _∙_, ap}
+use Rattle.tariff.specs.Tests.{is-accepted}
+use Rattle.sections.specs.Find.{section-of}
+use Rattle.sections.proofs.Finding.{found-both}
+use borrow.Author.Needs.{needs}
+use Rattle.sections.proofs.find.Statement.{statement}
+use Rattle.sections.proofs.find.Tie as tie
+
+find-verdict-requires : tie.Need-find-verdict-requires
+find-verdict-requires c κs = search needs
+
+enum-told : tie.Need-enum-told
+enum-told c = search needs
+
+sub-result : tie.Need-sub-result
+sub-result c = search needs
+
+part-result-start : tie.Need-part-result-start
+part-result-start c = search needs
+
+part-result-end : tie.Need-part-result-end
+part-result-end c = search needs
+
+enum-told-2 : tie.Need-enum-told-2
+enum-told-2 c = search needs
+
+part-requires : tie.Need-part-requires
+part-requires c κs = found-both (c .before .before .before .before .args .file .now) (c .before .before .before .before .args .kind) (ap is-accepted (sym (c .before .before .find-verdict .ensures) ∙ c .enum-told2 .given .1))
+
+returns : tie.Need-returns
+unfolding section-of
+returns c = simp (sym (c .before .before .before .find-verdict .ensures) ∙ c .before .enum-told .given .1)
+
+returns-2 : tie.Need-returns-2
+unfolding section-of
+returns-2 c = simp (sym (c .before .before .before .find-verdict .ensures) ∙ c .before .enum-told2 .given .1, c .part .ensures)
+
+pub find-spec : {M : Type 1} → statement M
+find-spec =
+    tie.close
+    (tie.spec
+    find-verdict-requires
+    enum-told
+    sub-result
+    part-result-start
+    part-result-end
+    enum-told-2
+    part-requires
+    returns
+    returns-2)

@@ -1,0 +1,95 @@
+-- `sections::part` meets its contract. Assumes nothing.
+use mathlib.Core.Path.{_≡_, _∙_, ap}
+use Prim.Native.Nat.{_+_, _-_}
+use native.Mathlib.Omega.{arith}
+use Rattle.sections.specs.Table.{section-count}
+use Rattle.sections.specs.Find.{entry-to, part-of}
+use Rattle.sections.proofs.Table.{Keeps, keeps}
+use Rattle.sections.proofs.Finding.{Lies, lies}
+use borrow.Author.Needs.{needs}
+use Rattle.sections.proofs.part.Statement.{statement}
+use Rattle.sections.proofs.part.Tie as tie
+
+keeps-here : (c : tie.After-shared-slice-known) → Keeps (c .before .args .file .now)
+keeps-here c = keeps (c .before .args .file .now) (c .before .pre .0)
+
+-- the entry that was found
+entry-is : (c : tie.After-entry-among) → c .entry-among .result ≡ entry-to (c .before .before .before .args .file .now) (c .before .before .before .args .kind) (section-count (c .before .before .before .args .file .now))
+entry-is c = c .entry-among .ensures ∙ ap (entry-to (c .before .before .before .args .file .now) (c .before .before .before .args .kind)) (c .before .word-at .ensures)
+
+lies-here : (c : tie.After-entry-among) → Lies (c .before .before .before .args .file .now) (c .entry-among .result)
+lies-here c = rw (entry-is c) (lies (c .before .before .before .args .file .now) (c .before .before .before .args .kind) (keeps-here (c .before .before)) (c .before .before .before .pre .1))
+
+word-at-requires : tie.Need-word-at-requires
+word-at-requires c κs = omega (arith, keeps-here c)
+
+cast-count : tie.Need-cast-count
+cast-count c = search needs
+
+entry-among-requires : tie.Need-entry-among-requires
+entry-among-requires c κs = omega (arith, keeps-here (c .before), c .word-at .ensures)
+
+mul-word-at : tie.Need-mul-word-at
+mul-word-at c = omega (arith, lies-here c, keeps-here (c .before .before))
+
+add-word-at : tie.Need-add-word-at
+add-word-at c = omega (arith, lies-here c, keeps-here (c .before .before))
+
+word-at-requires-2 : tie.Need-word-at-requires-2
+word-at-requires-2 c κs = omega (arith, lies-here c, keeps-here (c .before .before))
+
+cast-start : tie.Need-cast-start
+cast-start c = search needs
+
+mul-word-at-2 : tie.Need-mul-word-at-2
+mul-word-at-2 c = omega (arith, lies-here (c .before), keeps-here (c .before .before .before))
+
+add-word-at-2 : tie.Need-add-word-at-2
+add-word-at-2 c = omega (arith, lies-here (c .before), keeps-here (c .before .before .before))
+
+word-at-requires-3 : tie.Need-word-at-requires-3
+word-at-requires-3 c κs = omega (arith, lies-here (c .before), keeps-here (c .before .before .before))
+
+cast-len : tie.Need-cast-len
+cast-len c = search needs
+
+add-end : tie.Need-add-end
+add-end c = search needs
+
+sub-result : tie.Need-sub-result
+sub-result c = search needs
+
+part-result-start : tie.Need-part-result-start
+part-result-start c = search needs
+
+part-result-end : tie.Need-part-result-end
+part-result-end c = omega (arith, lies-here (c .before .before), c .word-at3 .ensures, c .before .word-at2 .ensures)
+
+returns : tie.Need-returns
+unfolding part-of
+returns c =
+    let w = c .before .before .word-at2 .result in
+    let v = c .before .word-at3 .result in
+    let e : w + v - w ≡ v = omega arith in
+    rw e (simp (c .before .before .word-at2 .ensures, c .before .word-at3 .ensures, entry-is (c .before .before .before)))
+
+pub part-spec : {M : Type 1} → statement M
+part-spec =
+    tie.close
+    (tie.spec
+    word-at-requires
+    cast-count
+    entry-among-requires
+    mul-word-at
+    add-word-at
+    word-at-requires-2
+    cast-start
+    mul-word-at-2
+    add-word-at-2
+    word-at-requires-3
+    cast-len
+    add-end
+    sub-result
+    part-result-start
+    part-result-end
+    returns)

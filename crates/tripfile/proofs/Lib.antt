@@ -1,0 +1,4 @@
+pub mod Listed
+pub mod Accepted
+pub mod Filled
+pub mod Held
