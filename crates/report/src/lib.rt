@@ -1,0 +1,98 @@
+// The figures that the program `statement` prints, from the bytes of a trip file. Document 01, "Figures".
+use account::Account;
+use reader::Step;
+use replay::Replayed;
+use tariff::Allowance;
+use tripfile::Read;
+ghost use mathlib.Core.Path.{_≡_};
+ghost use Prim.Native.Nat.{ℕ, _+_, _*_, _≤_, _<_};
+ghost use lib.ListN.{length};
+ghost use Rattle.report.specs.Statement.{figures-of, report-of, run-first, taken};
+
+// The nine figures.
+pub struct Figures {
+    pub day: u64,
+    pub paid: u64,
+    pub credit: u64,
+    pub home: u64,
+    pub extra: u64,
+    pub limit: Allowance,
+    pub roamed: u64,
+    pub past: u64,
+    pub refused: usize,
+}
+
+// What the program prints: the figures, or the number of a bad file.
+pub enum Report {
+    Lines(Figures),
+    Refused(u64),
+}
+
+// One call as the reader hands it out.
+fn take_call(t: Replayed, s: Step) -> Replayed
+    requires { ⌜ t .refused < 18446744073709551615 ⌝ }
+    ensures { λ r. ⌜ r ≡ taken t s ⌝ }
+{
+    match s {
+        Step::Call { code, number } => {
+            let x = replay::decode(code, number);
+            replay::replay_one(t, x)
+        }
+        Step::End => t,
+    }
+}
+
+// The first n calls of a calls section, on an account.
+fn run_section(section: &[u8], n: usize, a: Account) -> Replayed
+    requires { ⌜ (8 * n ≤ length (now section)) × (n ≤ 8184) ⌝ }
+    ensures { λ r. ⌜ r ≡ run-first a (now (section .entry)) n ⌝ }
+{
+    let mut t = Replayed {
+        account: a,
+        refused: 0,
+    };
+    let mut i: usize = 0;
+    while i < n {
+        let s = reader::call_at(section, 8 * i);
+        t = take_call(t, s);
+        i += 1;
+    }
+    t
+}
+
+fn show_figures(t: Replayed) -> Figures
+    ensures { λ r. ⌜ r ≡ figures-of t ⌝ }
+{
+    let a = t.account;
+    let s = a.state;
+    let limit = s.allowance;
+    let surcharged = s.surcharged;
+    Figures {
+        day: s.day,
+        paid: s.paid,
+        credit: s.credit,
+        home: s.homecharges,
+        extra: s.surcharges,
+        limit: limit,
+        roamed: s.roamed,
+        past: surcharged.kb,
+        refused: t.refused,
+    }
+}
+
+// The figures of a trip file's bytes.
+pub fn statement_of(file: &[u8]) -> Report
+    ensures { λ r. ⌜ r ≡ report-of (now (file .entry)) ⌝ }
+{
+    let read = tripfile::reading::read(file);
+    match read {
+        Read::Trip { plan, calls } => {
+            let opened = Account::open(plan);
+            let a = opened.account;
+            let t = run_section(sections::find(file, 2), calls, a);
+            let f = show_figures(t);
+            Report::Lines(f)
+        }
+        Read::Refused(n) => Report::Refused(n),
+    }
+}
