@@ -43,7 +43,7 @@ fn take_call(t: Replayed, s: Step) -> Replayed
 }
 
 // The first n calls of a calls section, on an account.
-fn run_section(section: &[u8], n: usize, a: Account) -> Replayed
+pub fn run_section(section: &[u8], n: usize, a: Account) -> Replayed
     requires { ⌜ (8 * n ≤ length (now section)) × (n ≤ 8184) ⌝ }
     ensures { λ r. ⌜ r ≡ run-first a (now (section .entry)) n ⌝ }
 {

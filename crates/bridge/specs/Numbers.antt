@@ -1,0 +1,67 @@
+-- The report and Afford as numbers, for the comparison with the second implementation. Assumes nothing.
+use Prim.Native.Nat.{ℕ}
+use mathlib.Core.Bool.{cond}
+use mathlib.Core.List.{List}
+use lib.Dec.{ltb, eqb}
+use lib.ListN.{length, set}
+use Rattle.tariff.specs.declared.Allowance.{Allowance}
+use Rattle.tariff.specs.declared.Allowance.the-variants.{NoLimit, Kilobytes}
+use Rattle.tariff.specs.declared.Kind.{Kind}
+use Rattle.tariff.specs.declared.Kind.the-variants.{Data, Outgoing, Incoming, Sms}
+use Rattle.account.specs.declared.AffordAnswer.{AffordAnswer}
+use Rattle.account.specs.declared.AffordAnswer.the-variants.{UpTo, Withheld}
+use Rattle.account.specs.Answers.{open-answer, afford-result}
+use Rattle.replay.specs.Replay.{replay-of}
+use Rattle.tripfile.specs.declared.Read.{Read}
+use Rattle.tripfile.specs.declared.Read.the-variants as Told
+use Rattle.tripfile.specs.Bodies.{codes-of, numbers-of}
+use Rattle.tripfile.specs.Reading.{read-of, calls-of}
+use Rattle.report.specs.declared.Figures.{Figures}
+use Rattle.report.specs.declared.Report.{Report}
+use Rattle.report.specs.declared.Report.the-variants.{Lines, Refused}
+
+-- L: whether it is a number, and that number
+abbrev pub limit-known : Allowance → ℕ
+limit-known NoLimit = 0
+limit-known (Kilobytes n) = 1
+
+abbrev pub limit-kb : Allowance → ℕ
+limit-kb NoLimit = 0
+limit-kb (Kilobytes n) = n
+
+-- the figures in the first ten places
+abbrev pub with-figures : Figures → List ℕ → List ℕ
+with-figures f out =
+    set (set (set (set (set (set (set (set (set (set out 0 (f .day)) 1 (f .paid)) 2 (f .credit)) 3 (f .home)) 4 (f .extra))
+    5 (limit-known (f .limit))) 6 (limit-kb (f .limit))) 7 (f .roamed)) 8 (f .past)) 9 (f .refused)
+
+-- the answer, and what then stands in the places
+abbrev pub report-number : Report → ℕ
+report-number (Lines f) = 0
+report-number (Refused n) = n
+
+abbrev pub report-places : Report → List ℕ → List ℕ
+report-places (Lines f) out = with-figures f out
+report-places (Refused n) out = out
+
+unfoldable pub statement-number : Report → ℕ → ℕ
+statement-number r places = cond (ltb places 10) 1000 (report-number r)
+
+unfoldable pub statement-out : Report → List ℕ → List ℕ
+statement-out r out = cond (ltb (length out) 10) out (report-places r out)
+
+-- kinds by number
+unfoldable pub kind-number : ℕ → Kind
+kind-number n = cond (eqb n 0) Data (cond (eqb n 1) Outgoing (cond (eqb n 2) Incoming Sms))
+
+-- what Afford answers
+abbrev pub afford-number : AffordAnswer → ℕ
+afford-number (UpTo n) = n
+afford-number (Withheld r) = 2000000000
+
+unfoldable pub afford-on : List ℕ → Kind → Read → ℕ
+afford-on f k (Told.Trip p n) = afford-number (afford-result (replay-of (open-answer p .account) (codes-of (calls-of f)) (numbers-of (calls-of f)) .account) k .answer)
+afford-on f k (Told.Refused n) = 3000000000
+
+unfoldable pub afford-after : List ℕ → ℕ → ℕ
+afford-after f n = afford-on f (kind-number n) (read-of f)
