@@ -1,10 +1,10 @@
 // The proved meter with a C interface, for the comparison with the second implementation.
-use tariff::Allowance;
-use tariff::Kind;
 use account::Account;
 use account::AffordAnswer;
 use report::Figures;
 use report::Report;
+use tariff::Allowance;
+use tariff::Kind;
 use tripfile::Read;
 ghost use mathlib.Core.Path.{_≡_};
 ghost use Prim.Native.Nat.{ℕ, _+_, _≤_, _<_};

@@ -1,7 +1,7 @@
 // Prints the statement of the trip file on standard input: document 01, "Figures". All that it prints of the file comes from `report`.
-use tariff::Allowance;
 use report::Figures;
 use report::Report;
+use tariff::Allowance;
 
 fn line(name: &[u8], n: u64) {
     io::write_all(1, name);

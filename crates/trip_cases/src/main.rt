@@ -1,8 +1,8 @@
 // Runs the stored trip files on standard input, each after its length as a little-endian word, and prints a line for each: `file` and its number, or
 // the nine figures, where a limit of none is the word `none`.
-use tariff::Allowance;
 use report::Figures;
 use report::Report;
+use tariff::Allowance;
 ghost use Prim.Native.Nat.{_<_, _≤_};
 ghost use lib.ListN.{length};
 

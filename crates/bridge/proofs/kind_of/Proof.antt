@@ -1,23 +1,24 @@
+-- `bridge::kind_of` meets its contract. Assumes nothing.
+use Rattle.bridge.specs.Numbers.{kind-number}
+use borrow.Author.Tests.{eq-eqb, ne-eqb}
 use Rattle.bridge.proofs.kind_of.Statement.{statement}
 use Rattle.bridge.proofs.kind_of.Tie as tie
-use Rattle.bridge.proofs.kind_of.Reads as reads
-use Rattle.bridge.proofs.kind_of.Lts as lts
 
--- src/lib.rt:75:9
 returns : tie.Need-returns
-returns c = ?
+unfolding kind-number
+returns c = simp (eq-eqb _ _ (c .if1 .taken))
 
--- src/lib.rt:78:9
 returns-2 : tie.Need-returns-2
-returns-2 c = ?
+unfolding kind-number
+returns-2 c = simp (ne-eqb _ _ (c .before .if1 .left), eq-eqb _ _ (c .if2 .taken))
 
--- src/lib.rt:81:9
 returns-3 : tie.Need-returns-3
-returns-3 c = ?
+unfolding kind-number
+returns-3 c = simp (ne-eqb _ _ (c .before .before .if1 .left), ne-eqb _ _ (c .before .if2 .left), eq-eqb _ _ (c .if3 .taken))
 
--- src/lib.rt:71:1
 returns-4 : tie.Need-returns-4
-returns-4 c = ?
+unfolding kind-number
+returns-4 c = simp (ne-eqb _ _ (c .before .before .if1 .left), ne-eqb _ _ (c .before .if2 .left), ne-eqb _ _ (c .if3 .left))
 
 pub kind-of-spec : {M : Type 1} → statement M
 kind-of-spec = tie.close (tie.spec returns returns-2 returns-3 returns-4)

@@ -1,42 +1,35 @@
+-- `bridge::meter_statement` meets its contract. Assumes nothing.
+use mathlib.Core.Path.{sym, _∙_}
+use Rattle.bridge.proofs.Same.{few-places, told-figures, told-refusal}
 use borrow.Author.Needs.{needs}
 use Rattle.bridge.proofs.meter_statement.Statement.{statement}
 use Rattle.bridge.proofs.meter_statement.Tie as tie
-use Rattle.bridge.proofs.meter_statement.Reads as reads
-use Rattle.bridge.proofs.meter_statement.Lts as lts
-use Rattle.bridge.proofs.put_figures.Reads as put-figures-reads
-use Rattle.report.proofs.statement_of.Reads as statement-of-reads
 
--- src/lib.rt:59:9
 returns : tie.Need-returns
-returns c = ?
+returns c = few-places _ _ (c .if1 .taken)
 
--- src/lib.rt:61:9
 statement-of-requires : tie.Need-statement-of-requires
 statement-of-requires c κs = search needs
 
--- src/lib.rt:63:23
 enum-known-r : tie.Need-enum-known-r
 enum-known-r c = search needs
 
--- src/lib.rt:64:13
 put-figures-requires : tie.Need-put-figures-requires
 put-figures-requires c κs = search needs
 
--- src/lib.rt:67:25
 enum-known-r-2 : tie.Need-enum-known-r-2
 enum-known-r-2 c = search needs
 
--- src/lib.rt:53:1
 same-length : tie.Need-same-length
 same-length c = search needs
 
--- src/lib.rt:53:1
 returns-2 : tie.Need-returns-2
-returns-2 c = ?
+returns-2 c = let e = sym (c .before .before .before .before .before .before .before .statement-of .ensures) ∙ c .before .before .before .before .before .r .given .1 in
+    let q = told-figures _ _ (c .before .before .before .before .before .before .before .before .before .before .before .args .out .now) (c .before .before .before .before .before .before .before .before .if1 .left) e in
+    (q .0, c .before .before .put-figures .ensures ∙ q .1)
 
--- src/lib.rt:53:1
 returns-3 : tie.Need-returns-3
-returns-3 c = ?
+returns-3 c = told-refusal _ _ _ (c .before .before .before .before .if1 .left) (sym (c .before .before .before .statement-of .ensures) ∙ c .before .r2 .given .1)
 
 pub meter-statement-spec : {M : Type 1} → statement M
 meter-statement-spec =

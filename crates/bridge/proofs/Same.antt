@@ -1,0 +1,60 @@
+-- Afford leaves the account, and what the report comes to as numbers. Assumes nothing.
+use Prim.Native.Nat.{ℕ, _≤_, _<_}
+use mathlib.Core.Path.{_≡_, refl, sym, _∙_, ap}
+use mathlib.Core.Bool.{Bool, true, false, cond}
+use mathlib.Core.List.{List}
+use lib.ListN.{length}
+use borrow.Author.Tests.{lt-ltb, le-ltb}
+use Rattle.tariff.specs.declared.Kind.{Kind}
+use Rattle.tariff.specs.declared.Plan.{Plan}
+use Rattle.account.specs.declared.Account.{Account}
+use Rattle.account.specs.declared.Afforded.{Afforded}
+use Rattle.account.specs.declared.AffordAnswer.{AffordAnswer}
+use Rattle.account.specs.declared.Call.the-variants.{Afford}
+use Rattle.account.specs.Calls.{accepts, after, step}
+use Rattle.account.specs.Answers.{open-answer, afford-result}
+use Rattle.replay.specs.declared.Replayed.{Replayed}
+use Rattle.tripfile.specs.declared.Read.the-variants.{Trip, Refused as NotRead}
+use Rattle.tripfile.specs.Reading.{read-of}
+use Rattle.sections.specs.Find.{section-of}
+use Rattle.report.specs.declared.Figures.{Figures}
+use Rattle.report.specs.declared.Report.{Report}
+use Rattle.report.specs.declared.Report.the-variants.{Lines, Refused}
+use Rattle.report.specs.Statement.{run-first}
+use Rattle.report.proofs.Running.{file-replayed}
+use Rattle.bridge.specs.Numbers.{with-figures, report-number, statement-number, statement-out, kind-number, afford-number, afford-on, afford-after}
+
+pub afford-same : (a : Account) (k : Kind) → afford-result a k .account ≡ a
+unfolding afford-result step after
+afford-same a k = go (accepts a (Afford k))
+  where
+    go : (b : Bool) → cond b a a ≡ a
+    go true = refl
+    go false = refl
+
+pub asked-account : (a : Account) (k : Kind) (r : Afforded) → r ≡ afford-result a k → r .account ≡ a
+asked-account a k r e = ap (λ (x : Afforded). x .account) e ∙ afford-same a k
+
+pub asked-answer : (a b : Account) (k : Kind) (r : Afforded) → r ≡ afford-result a k → a ≡ b → r .answer ≡ afford-result b k .answer
+asked-answer a b k r e h = ap (λ (x : Afforded). x .answer) e ∙ ap (λ (x : Account). afford-result x k .answer) h
+
+pub few-places : (r : Report) (out : List ℕ) → length out < 10 → (1000 ≡ statement-number r (length out)) × (out ≡ statement-out r out)
+unfolding statement-number statement-out
+few-places r out h = (rw (lt-ltb (length out) 10 h) refl, rw (lt-ltb (length out) 10 h) refl)
+
+pub told-figures : (r : Report) (f : Figures) (out : List ℕ) → 10 ≤ length out → r ≡ Lines f → (0 ≡ statement-number r (length out)) × (with-figures f out ≡ statement-out r out)
+unfolding statement-number statement-out
+told-figures r f out h e = (rw (le-ltb (length out) 10 h, e) refl, rw (le-ltb (length out) 10 h, e) refl)
+
+pub told-refusal : (r : Report) (n : ℕ) (out : List ℕ) → 10 ≤ length out → r ≡ Refused n → (n ≡ statement-number r (length out)) × (out ≡ statement-out r out)
+unfolding statement-number statement-out
+told-refusal r n out h e = (rw (le-ltb (length out) 10 h, e) refl, rw (le-ltb (length out) 10 h, e) refl)
+
+pub afforded : (f : List ℕ) (k : ℕ) (p : Plan) (n : ℕ) → read-of f ≡ Trip p n
+    → afford-number (afford-result (run-first (open-answer p .account) (section-of f 2) n .account) (kind-number k) .answer) ≡ afford-after f k
+unfolding afford-after afford-on
+afforded f k p n e = rw e (ap (λ (t : Replayed). afford-number (afford-result (t .account) (kind-number k) .answer)) (file-replayed (open-answer p .account) f p n e))
+
+pub not-afforded : (f : List ℕ) (k n : ℕ) → read-of f ≡ NotRead n → 3000000000 ≡ afford-after f k
+unfolding afford-after afford-on
+not-afforded f k n e = rw e refl
