@@ -1,5 +1,5 @@
 -- Afford leaves the account, and what the report comes to as numbers. Assumes nothing.
-use Prim.Native.Nat.{ℕ, _≤_, _<_}
+use Prim.Native.Nat.{ℕ, _+_, _%_, _≤_, _<_}
 use mathlib.Core.Path.{_≡_, refl, sym, _∙_, ap}
 use mathlib.Core.Bool.{Bool, true, false, cond}
 use mathlib.Core.List.{List}
@@ -55,6 +55,6 @@ pub afforded : (f : List ℕ) (k : ℕ) (p : Plan) (n : ℕ) → read-of f ≡ T
 unfolding afford-after afford-on
 afforded f k p n e = rw e (ap (λ (t : Replayed). afford-number (afford-result (t .account) (kind-number k) .answer)) (file-replayed (open-answer p .account) f p n e))
 
-pub not-afforded : (f : List ℕ) (k n : ℕ) → read-of f ≡ NotRead n → 3000000000 ≡ afford-after f k
+pub not-afforded : (f : List ℕ) (k n : ℕ) → read-of f ≡ NotRead n → 3000000000 + n % 1000 ≡ afford-after f k
 unfolding afford-after afford-on
 not-afforded f k n e = rw e refl

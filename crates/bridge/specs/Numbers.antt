@@ -1,5 +1,5 @@
 -- The report and Afford as numbers, for the comparison with the second implementation. Assumes nothing.
-use Prim.Native.Nat.{ℕ}
+use Prim.Native.Nat.{ℕ, _+_, _%_}
 use mathlib.Core.Bool.{cond}
 use mathlib.Core.List.{List}
 use lib.Dec.{ltb, eqb}
@@ -57,11 +57,11 @@ kind-number n = cond (eqb n 0) Data (cond (eqb n 1) Outgoing (cond (eqb n 2) Inc
 -- what Afford answers
 abbrev pub afford-number : AffordAnswer → ℕ
 afford-number (UpTo n) = n
-afford-number (Withheld r) = 2000000000
+afford-number (Withheld r) = 2000000000 + r % 1000
 
 unfoldable pub afford-on : List ℕ → Kind → Read → ℕ
 afford-on f k (Told.Trip p n) = afford-number (afford-result (replay-of (open-answer p .account) (codes-of (calls-of f)) (numbers-of (calls-of f)) .account) k .answer)
-afford-on f k (Told.Refused n) = 3000000000
+afford-on f k (Told.Refused n) = 3000000000 + n % 1000
 
 unfoldable pub afford-after : List ℕ → ℕ → ℕ
 afford-after f n = afford-on f (kind-number n) (read-of f)

@@ -88,7 +88,7 @@ fn answer_of(x: AffordAnswer) -> u64
 {
     match x {
         AffordAnswer::UpTo(n) => n,
-        AffordAnswer::Withheld(_) => 2000000000,
+        AffordAnswer::Withheld(n) => 2000000000 + n % 1000,
     }
 }
 
@@ -109,8 +109,8 @@ fn ask(a: Account, k: Kind, times: u64) -> u64
     answer_of(answer)
 }
 
-// What the account affords of a kind (0 data, 1 outgoing, 2 incoming, else SMS) after a trip file's calls: a number of units, or 2,000,000,000 where
-// Afford is refused, or 3,000,000,000 for a bad file. Asked so many times.
+// What the account affords of a kind (0 data, 1 outgoing, 2 incoming, else SMS) after a trip file's calls: a number of units, or 2,000,000,000 and
+// the number that declines Afford, or 3,000,000,000 and the number of a bad file. Asked so many times.
 #[no_mangle]
 pub extern "C" fn meter_afford(file: &[u8], kind: u64, times: u64) -> u64
     ensures { λ r. ⌜ r ≡ afford-after (now (file .entry)) kind ⌝ }
@@ -124,6 +124,6 @@ pub extern "C" fn meter_afford(file: &[u8], kind: u64, times: u64) -> u64
             let b = t.account;
             ask(b, kind_of(kind), times)
         }
-        Read::Refused(_) => 3000000000,
+        Read::Refused(n) => 3000000000 + n % 1000,
     }
 }

@@ -28,15 +28,18 @@ kind-of-requires c κs = search needs
 ask-requires : tie.Need-ask-requires
 ask-requires c κs = search needs
 
-enum-told : tie.Need-enum-told
-enum-told c = search needs
+enum-known-read-2 : tie.Need-enum-known-read-2
+enum-known-read-2 c = search needs
+
+add-result : tie.Need-add-result
+add-result c = search needs
 
 returns : tie.Need-returns
 returns c = let e = sym (c .before .before .before .before .before .before .before .before .before .before .read .ensures) ∙ c .before .before .before .before .before .before .before .before .read2 .given .1 in
     simp (c .ask .ensures, c .before .kind-of .ensures, c .before .before .before .run-section .ensures, c .before .before .before .before .find .ensures, c .before .before .before .before .before .before .«open» .ensures) (afforded _ _ _ _ e)
 
 returns-2 : tie.Need-returns-2
-returns-2 c = not-afforded _ _ _ (sym (c .before .before .read .ensures) ∙ c .enum-told .given .1)
+returns-2 c = not-afforded _ _ _ (sym (c .before .before .before .read .ensures) ∙ c .before .read3 .given .1)
 
 pub meter-afford-spec : {M : Type 1} → statement M
 meter-afford-spec =
@@ -49,6 +52,7 @@ meter-afford-spec =
     run-section-requires
     kind-of-requires
     ask-requires
-    enum-told
+    enum-known-read-2
+    add-result
     returns
     returns-2)

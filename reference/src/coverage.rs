@@ -1,0 +1,284 @@
+//! Which events the random trips reached, counted by trips.
+
+use crate::caps::caps_on;
+use crate::meter::{Account, Answer};
+use crate::plan::{BUNDLE, UNLIMITED};
+use crate::services::{window, Log, State, LOG_DAYS, SHORT_DAYS};
+use crate::terms::{Call, Kind, Place, Service};
+use std::collections::{BTreeMap, BTreeSet};
+
+const REFUSALS: [&str; 10] = [
+    "refusal 0",
+    "refusal 1",
+    "refusal 2",
+    "refusal 3",
+    "refusal 4",
+    "refusal 5",
+    "refusal 6",
+    "refusal 7",
+    "refusal 8",
+    "refusal 9",
+];
+const WARNED: [&str; 3] = ["data warned", "calls warned", "SMS warned"];
+const SURCHARGED: [&str; 3] = ["data surcharged", "calls surcharged", "SMS surcharged"];
+const CLEARED: [&str; 3] = ["data cleared", "calls cleared", "SMS cleared"];
+const SPARED: [&str; 3] = [
+    "data warned, then clear",
+    "calls warned, then clear",
+    "SMS warned, then clear",
+];
+
+/// Every event that a set of random trips must reach. Refusal 0 cannot arise
+/// from a list, and 1 and 2 are those of files.
+pub const EVENTS: [&str; 59] = [
+    "refusal 3",
+    "refusal 4",
+    "refusal 5",
+    "refusal 6",
+    "refusal 7",
+    "refusal 8",
+    "refusal 9",
+    "file read",
+    "file 1",
+    "file 2",
+    "file 10",
+    "file 11",
+    "file 12",
+    "file 13",
+    "file 14",
+    "file 15",
+    "data warned",
+    "calls warned",
+    "SMS warned",
+    "data surcharged",
+    "calls surcharged",
+    "SMS surcharged",
+    "data cleared",
+    "calls cleared",
+    "SMS cleared",
+    "data warned, then clear",
+    "calls warned, then clear",
+    "SMS warned, then clear",
+    "61 zone days of 123",
+    "62 zone days of 123",
+    "7 zone days of 15",
+    "8 zone days of 15",
+    "use while surcharged",
+    "use while surcharged and past L",
+    "notice",
+    "notice while surcharged",
+    "zone data with L none",
+    "zone data with L 0",
+    "prepaid L 0 on entry",
+    "V crossed in a record",
+    "L crossed in a record",
+    "V and L crossed in a record",
+    "priced and surcharged kB",
+    "cap change in mid-trip",
+    "month turn of a prepaid plan with R over 0",
+    "month turn of a bundle with H over 0",
+    "bundle closing as the cap falls",
+    "entry into the zone again",
+    "registered in the zone again",
+    "prepaid top-up in the zone",
+    "prepaid top-up outside the zone",
+    "bundle top-up in the zone",
+    "free use with credit 0",
+    "cost equal to credit",
+    "afford 0",
+    "afford the most",
+    "empty list",
+    "another list with the same stretches",
+    "the same cuts with other stretches",
+];
+
+/// An account without its log: what the events of a call need of the account
+/// before it.
+pub fn outline(account: &Account) -> Account {
+    Account {
+        log: Log::new(),
+        ..*account
+    }
+}
+
+/// The events of one trip.
+#[derive(Clone, Debug, Default)]
+pub struct TripEvents {
+    seen: BTreeSet<&'static str>,
+}
+
+/// How many trips and files reached each event.
+#[derive(Clone, Debug, Default)]
+pub struct Coverage {
+    counts: BTreeMap<&'static str, u64>,
+}
+
+impl Coverage {
+    pub fn new() -> Coverage {
+        Coverage::default()
+    }
+
+    pub fn add(&mut self, trip: &TripEvents) {
+        for event in &trip.seen {
+            *self.counts.entry(event).or_insert(0) += 1;
+        }
+    }
+
+    pub fn count(&self, event: &str) -> u64 {
+        self.counts.get(event).copied().unwrap_or(0)
+    }
+
+    /// The events that no trip reached.
+    pub fn missing(&self) -> Vec<&str> {
+        let unseen = |event: &&str| self.count(event) == 0;
+        EVENTS.into_iter().filter(unseen).collect()
+    }
+}
+
+impl TripEvents {
+    fn hit(&mut self, event: &'static str, reached: bool) {
+        if reached {
+            self.seen.insert(event);
+        }
+    }
+
+    /// A list without calls.
+    pub fn empty_list(&mut self) {
+        self.hit("empty list", true);
+    }
+
+    /// A pair of lists with the same cuts: whether their stretches agree, and
+    /// whether the lists are the same.
+    pub fn pair(&mut self, stretches_agree: bool, lists_agree: bool) {
+        let same = stretches_agree && !lists_agree;
+        self.hit("another list with the same stretches", same);
+        self.hit("the same cuts with other stretches", !stretches_agree);
+    }
+
+    /// The number that reading a file gave, 0 if it was read.
+    pub fn file(&mut self, number: u32) {
+        let event = match number {
+            0 => "file read",
+            1 => "file 1",
+            2 => "file 2",
+            10 => "file 10",
+            11 => "file 11",
+            12 => "file 12",
+            13 => "file 13",
+            14 => "file 14",
+            _ => "file 15",
+        };
+        self.hit(event, true);
+    }
+
+    /// A call with the account before it, which may be an outline, and the
+    /// one after it.
+    pub fn call(&mut self, before: &Account, call: Call, got: &Result<Answer, u32>, now: &Account) {
+        match (got, call) {
+            (Err(number), _) => self.hit(REFUSALS[*number as usize], true),
+            (Ok(_), Call::Use(kind, n)) => self.used(before, kind, n, got, now),
+            (Ok(_), Call::Register(place)) => self.registered(before, place, now),
+            (Ok(_), Call::TopUp(_)) => self.topped_up(before),
+            (Ok(_), Call::NextDay) => self.next_day(before, now),
+            (Ok(answer), Call::Afford(_)) => {
+                self.hit("afford 0", *answer == Answer::Most(0));
+                self.hit("afford the most", *answer == Answer::Most(1_000_000_000));
+            }
+        }
+    }
+
+    fn registered(&mut self, before: &Account, place: Place, now: &Account) {
+        if place != Place::Zone {
+            return;
+        }
+        let stays = before.place == Some(Place::Zone);
+        self.hit("registered in the zone again", stays);
+        self.hit("entry into the zone again", !stays && before.r > 0);
+        let zero = now.plan.is_prepaid() && now.l == Some(0);
+        self.hit("prepaid L 0 on entry", !stays && zero);
+    }
+
+    fn topped_up(&mut self, before: &Account) {
+        let zone = before.place == Some(Place::Zone);
+        let prepaid = before.plan.is_prepaid();
+        self.hit("prepaid top-up in the zone", prepaid && zone);
+        self.hit("prepaid top-up outside the zone", prepaid && !zone);
+        self.hit("bundle top-up in the zone", !prepaid && zone);
+    }
+
+    fn used(
+        &mut self,
+        old: &Account,
+        kind: Kind,
+        n: u64,
+        got: &Result<Answer, u32>,
+        now: &Account,
+    ) {
+        let state = old.states[Service::of(kind) as usize];
+        let zone = old.place == Some(Place::Zone);
+        let surcharged = zone && state == State::Surcharged;
+        let cost = old.credit - now.credit;
+        self.hit("use while surcharged", surcharged);
+        self.hit("free use with credit 0", old.credit == 0);
+        self.hit("cost equal to credit", cost > 0 && cost == old.credit);
+        if kind != Kind::Data {
+            return;
+        }
+        let notice = matches!(got, Ok(Answer::Used { notice: true, .. }));
+        self.hit("notice", notice);
+        self.hit("notice while surcharged", notice && surcharged);
+        let limit = old.l.unwrap_or(u64::MAX);
+        self.hit(
+            "use while surcharged and past L",
+            surcharged && old.r >= limit,
+        );
+        self.hit("zone data with L none", zone && old.l.is_none());
+        self.hit("zone data with L 0", zone && old.l == Some(0));
+        let over = |before: u64, first: u64| before < first && first < before + n;
+        let past_l = zone && over(old.r, limit);
+        let counted = old.place != Some(Place::Elsewhere) && old.plan.form == BUNDLE;
+        let past_v = counted && over(old.h, u64::from(old.plan.volume));
+        self.hit("L crossed in a record", past_l);
+        self.hit("V crossed in a record", past_v);
+        self.hit("V and L crossed in a record", past_l && past_v);
+        let both = now.priced[0] > old.priced[0] && now.surcharged[0] > old.surcharged[0];
+        self.hit("priced and surcharged kB", both);
+    }
+
+    fn next_day(&mut self, before: &Account, now: &Account) {
+        let turned = crate::calendar::is_first_day(now.day);
+        let bundle = matches!(now.plan.form, BUNDLE | UNLIMITED);
+        let caps_changed = caps_on(before.day) != caps_on(now.day);
+        self.hit("cap change in mid-trip", caps_changed);
+        let used = turned && bundle && before.h > 0;
+        self.hit("month turn of a bundle with H over 0", used);
+        let kept = turned && !bundle && before.r > 0;
+        self.hit("month turn of a prepaid plan with R over 0", kept);
+        let closing = caps_changed && before.l.is_some() && now.l.is_none();
+        self.hit("bundle closing as the cap falls", closing);
+        for service in Service::ALL {
+            self.stepped(before, service, now);
+        }
+    }
+
+    fn stepped(&mut self, before: &Account, service: Service, now: &Account) {
+        let s = service as usize;
+        match (before.states[s], now.states[s]) {
+            (State::Clear, State::Warned(_)) => self.hit(WARNED[s], true),
+            (State::Warned(_), State::Surcharged) => self.hit(SURCHARGED[s], true),
+            (State::Warned(_), State::Clear) => self.hit(SPARED[s], true),
+            (State::Surcharged, State::Clear) => self.hit(CLEARED[s], true),
+            _ => {}
+        }
+        // At a decision where the units prevail, the days alone decide.
+        let short = before.states[s] == State::Warned(14);
+        let long = !matches!(before.states[s], State::Warned(_)) && now.log.len() == LOG_DAYS;
+        let days = if short { SHORT_DAYS } else { LOG_DAYS };
+        let sums = window(&now.log, days, service);
+        let decides = |days: usize| sums.zone_units > sums.other_units && sums.zone_days == days;
+        self.hit("61 zone days of 123", long && decides(61));
+        self.hit("62 zone days of 123", long && decides(62));
+        self.hit("7 zone days of 15", short && decides(7));
+        self.hit("8 zone days of 15", short && decides(8));
+    }
+}

@@ -1,0 +1,421 @@
+//! The account and its calls. Each call looks at soundness first (refusal 0);
+//! a refusal is 01's number and leaves the account unchanged.
+
+use crate::calendar;
+use crate::caps::{caps_on, Caps};
+use crate::charges::{extra_points, home_points, past};
+use crate::plan::{day_in_range, prepaid_limit, Plan, BUNDLE, LAST_DAY, PREPAID};
+use crate::planted::{planted, Wrong};
+use crate::services::{step, Day, Log, State, LOG_DAYS};
+use crate::terms::{Call, Kind, Place, Service};
+
+/// Refusal 4: largest n of one use.
+pub const MAX_UNITS: u64 = 1_000_000_000;
+/// Refusal 5: lifetime units of a kind.
+pub const MAX_LIFETIME: u64 = 1_000_000_000_000;
+/// Refusal 7: largest top-up.
+pub const MAX_TOP_UP: u64 = 10_000_000;
+/// Refusal 8: paid in.
+pub const MAX_PAID_IN: u64 = 1_000_000_000;
+/// Soundness: L.
+pub const MAX_LIMIT: u64 = 2_000_000_000_000_000;
+/// Soundness: points of cap for each surcharged unit.
+pub const MAX_CAP: u64 = 20_000;
+
+/// The fields listed under "Account and its calls". Arrays "of each kind" go
+/// by `Kind`, states by `Service`; the log is newest first.
+#[derive(Clone, PartialEq, Eq, Debug)]
+pub struct Account {
+    pub plan: Plan,
+    pub day: u32,
+    pub place: Option<Place>,
+    pub credit: u64,
+    pub paid_in: u64,
+    pub home: u64,
+    pub extra: u64,
+    pub lifetime: [u64; 4],
+    pub priced: [u64; 4],
+    pub surcharged: [u64; 4],
+    pub cap_sums: [u64; 4],
+    pub h: u64,
+    pub r: u64,
+    pub l: Option<u64>,
+    pub today: Day,
+    pub log: Log,
+    pub states: [State; 3],
+}
+
+/// What an accepted call answers.
+#[derive(Clone, Copy, PartialEq, Eq, Debug)]
+pub enum Answer {
+    /// Register, Top-up and Next day.
+    Done,
+    /// Use: home and surcharge points taken, surcharged units, notice.
+    Used {
+        home: u64,
+        extra: u64,
+        surcharged: u64,
+        notice: bool,
+    },
+    /// Afford: the largest n for which Use is accepted, 0 if none.
+    Most(u64),
+}
+
+/// What a use bears, and the life sums with it.
+struct Charge {
+    priced: u64,
+    surcharged: u64,
+    home: u64,
+    extra: u64,
+}
+
+impl Account {
+    /// Open: 1 plan outside its ranges; 2 start day outside 181 to 3833.
+    pub fn open(plan: Plan) -> Result<Account, u32> {
+        Account::open_at(plan, &caps_on(plan.start))
+    }
+
+    /// Open with the caps as an argument.
+    pub fn open_at(plan: Plan, caps: &Caps) -> Result<Account, u32> {
+        if !plan.in_ranges() {
+            return Err(1);
+        }
+        if !plan.starts_in_range() {
+            return Err(2);
+        }
+        Ok(Account {
+            plan,
+            day: plan.start,
+            place: None,
+            credit: 0,
+            paid_in: 0,
+            home: 0,
+            extra: 0,
+            lifetime: [0; 4],
+            priced: [0; 4],
+            surcharged: [0; 4],
+            cap_sums: [0; 4],
+            h: 0,
+            r: 0,
+            l: plan.limit(caps[0]),
+            today: Day::default(),
+            log: Log::with_capacity(LOG_DAYS + 1),
+            states: [State::Clear; 3],
+        })
+    }
+
+    /// The soundness list. Ranges come first, so that the sums after them
+    /// cannot overflow whatever the fields hold.
+    pub fn sound(&self) -> bool {
+        self.days_sound() && self.units_sound() && self.money_sound()
+    }
+
+    /// Plan, day, log length, Warned counts and L.
+    fn days_sound(&self) -> bool {
+        self.plan.in_ranges()
+            && self.plan.starts_in_range()
+            && day_in_range(self.day)
+            && self.day >= self.plan.start
+            && self.log.len() == LOG_DAYS.min((self.day - self.plan.start) as usize)
+            && self.l.is_none_or(|limit| limit <= MAX_LIMIT)
+            && self
+                .states
+                .iter()
+                .all(|state| !matches!(state, State::Warned(changes) if *changes > 14))
+    }
+
+    /// Units of each kind against the lifetime units of that kind, and cap
+    /// sums against the surcharged units.
+    fn units_sound(&self) -> bool {
+        let logged = self.logged_units();
+        let data = self.lifetime[Kind::Data as usize];
+        let kind_sound = |k: usize| {
+            self.lifetime[k] <= MAX_LIFETIME
+                && self.priced[k] <= self.lifetime[k]
+                && self.surcharged[k] <= self.lifetime[k]
+                && logged[k] <= self.lifetime[k]
+                && self.cap_sums[k] <= MAX_CAP * self.surcharged[k]
+        };
+        (0..4).all(kind_sound) && self.r <= data && self.h <= data
+    }
+
+    /// Today's units with the log's, by kind over all places. The log has at
+    /// most 123 days here. A number of 2^50 or more is over every lifetime
+    /// limit by itself; below it no sum comes near 2^64.
+    fn logged_units(&self) -> [u64; 4] {
+        let (mut sums, mut bits) = ([[0u64; 3]; 4], [[0u64; 3]; 4]);
+        let (newer, older) = self.log.as_slices();
+        let today = std::slice::from_ref(&self.today);
+        for days in [today, newer, older] {
+            for day in days {
+                for k in 0..4 {
+                    for p in 0..3 {
+                        sums[k][p] = sums[k][p].wrapping_add(day.units[k][p]);
+                        bits[k][p] |= day.units[k][p];
+                    }
+                }
+            }
+        }
+        if bits.as_flattened().iter().any(|units| *units >= 1 << 50) {
+            return [u64::MAX; 4];
+        }
+        sums.map(|places| places.iter().sum())
+    }
+
+    /// Charges as worked out from the amounts held; paid in = credit + both.
+    fn money_sound(&self) -> bool {
+        let held = u128::from(self.credit) + u128::from(self.home) + u128::from(self.extra);
+        let home = home_points(&self.plan, &self.priced);
+        self.paid_in <= MAX_PAID_IN
+            && (self.home == home || planted(Wrong::RoundsEachRecord))
+            && self.extra == extra_points(&self.cap_sums)
+            && u128::from(self.paid_in) == held
+    }
+
+    /// Register: sets place and marks today; a prepaid account entering the
+    /// zone gets a new L and R = 0.
+    pub fn register(&mut self, place: Place) -> Result<Answer, u32> {
+        self.register_at(place, &caps_on(self.day))
+    }
+
+    /// Register with the caps as an argument.
+    pub fn register_at(&mut self, place: Place, caps: &Caps) -> Result<Answer, u32> {
+        if !self.sound() {
+            return Err(0);
+        }
+        let outside = self.place != Some(Place::Zone) || planted(Wrong::NewLimitOnRegisteringAgain);
+        let entering = place == Place::Zone && outside;
+        self.place = Some(place);
+        self.today.mark(place);
+        if entering {
+            self.renew_prepaid_limit(self.credit, caps);
+        }
+        Ok(Answer::Done)
+    }
+
+    /// Top-up: 7, 8; adds to credit and paid in, and renews the limit of a
+    /// prepaid account in the zone from the new credit.
+    pub fn top_up(&mut self, amount: u64) -> Result<Answer, u32> {
+        self.top_up_at(amount, &caps_on(self.day))
+    }
+
+    /// Top-up with the caps as an argument.
+    pub fn top_up_at(&mut self, amount: u64, caps: &Caps) -> Result<Answer, u32> {
+        if !self.sound() {
+            return Err(0);
+        }
+        if !(1..=MAX_TOP_UP).contains(&amount) {
+            return Err(7);
+        }
+        if self.paid_in + amount > MAX_PAID_IN {
+            return Err(8);
+        }
+        self.credit += amount;
+        self.paid_in += amount;
+        if self.place == Some(Place::Zone) {
+            let from_top_up = planted(Wrong::LimitFromTopUp);
+            self.renew_prepaid_limit(if from_top_up { amount } else { self.credit }, caps);
+        }
+        Ok(Answer::Done)
+    }
+
+    fn renew_prepaid_limit(&mut self, credit: u64, caps: &Caps) {
+        if self.plan.form == PREPAID {
+            self.l = Some(prepaid_limit(credit, caps[0]));
+            self.r = 0;
+        }
+    }
+
+    /// Use: 3, 4, 5, 6.
+    pub fn use_units(&mut self, kind: Kind, n: u64) -> Result<Answer, u32> {
+        self.use_units_at(kind, n, &caps_on(self.day))
+    }
+
+    /// Use with the caps as an argument.
+    pub fn use_units_at(&mut self, kind: Kind, n: u64, caps: &Caps) -> Result<Answer, u32> {
+        if !self.sound() {
+            return Err(0);
+        }
+        let place = self.place.ok_or(3u32)?;
+        if !(1..=MAX_UNITS).contains(&n) {
+            return Err(4);
+        }
+        if self.lifetime[kind as usize] + n > MAX_LIFETIME {
+            return Err(5);
+        }
+        let charge = self.charge(place, kind, n, caps[kind as usize]);
+        if charge.home + charge.extra > self.home + self.extra + self.credit {
+            return Err(6);
+        }
+        Ok(self.take(place, kind, n, caps[kind as usize], charge))
+    }
+
+    /// What n units would bear. The account is sound and n at most a billion.
+    fn charge(&self, place: Place, kind: Kind, n: u64, cap: u64) -> Charge {
+        let k = kind as usize;
+        let priced = self.priced_units(place, kind, n);
+        let surcharged = self.surcharged_units(place, kind, n);
+        let mut all_priced = self.priced;
+        all_priced[k] += priced;
+        let mut all_sums = self.cap_sums;
+        all_sums[k] += cap * surcharged;
+        Charge {
+            priced,
+            surcharged,
+            home: if planted(Wrong::RoundsEachRecord) {
+                let of_record = std::array::from_fn(|i| if i == k { priced } else { 0 });
+                self.home + home_points(&self.plan, &of_record)
+            } else {
+                home_points(&self.plan, &all_priced)
+            },
+            extra: extra_points(&all_sums),
+        }
+    }
+
+    /// Home price: home and zone only; all prepaid kB, a bundle's kB after
+    /// the first V of H, none without limit; outgoing seconds; SMS.
+    fn priced_units(&self, place: Place, kind: Kind, n: u64) -> u64 {
+        match (place, kind) {
+            (Place::Elsewhere, _) | (_, Kind::Incoming) => 0,
+            (_, Kind::Outgoing | Kind::Sms) => n,
+            (_, Kind::Data) => match self.plan.form {
+                PREPAID => n,
+                BUNDLE => {
+                    let one_more = u64::from(planted(Wrong::OneMoreThanVolume));
+                    past(self.h, n, u64::from(self.plan.volume) + one_more)
+                }
+                _ => 0,
+            },
+        }
+    }
+
+    /// Surcharge: all zone units of a Surcharged service, else zone kB after
+    /// the first L of R; each unit at most once.
+    fn surcharged_units(&self, place: Place, kind: Kind, n: u64) -> u64 {
+        if place != Place::Zone {
+            return 0;
+        }
+        let past_limit = match (kind, self.l) {
+            (Kind::Data, Some(limit)) => past(self.r, n, limit),
+            _ => 0,
+        };
+        if self.states[Service::of(kind) as usize] == State::Surcharged {
+            let twice = planted(Wrong::SurchargesTwice);
+            return if twice { n + past_limit } else { n };
+        }
+        past_limit
+    }
+
+    /// Books an accepted use and answers it.
+    fn take(&mut self, place: Place, kind: Kind, n: u64, cap: u64, charge: Charge) -> Answer {
+        let k = kind as usize;
+        let home = charge.home - self.home;
+        let extra = charge.extra - self.extra;
+        let notice = self.gives_notice(place, kind, n);
+        self.credit -= home + extra;
+        self.home = charge.home;
+        self.extra = charge.extra;
+        self.lifetime[k] += n;
+        self.priced[k] += charge.priced;
+        self.surcharged[k] += charge.surcharged;
+        self.cap_sums[k] += cap * charge.surcharged;
+        self.today.mark(place);
+        self.today.units[k][place as usize] += n;
+        if kind == Kind::Data {
+            self.count_data(place, n);
+        }
+        Answer::Used {
+            home,
+            extra,
+            surcharged: charge.surcharged,
+            notice,
+        }
+    }
+
+    /// "A notice if R was below L and now isn't."
+    fn gives_notice(&self, place: Place, kind: Kind, n: u64) -> bool {
+        match (place, kind, self.l) {
+            (Place::Zone, Kind::Data, Some(limit)) => self.r < limit && self.r + n >= limit,
+            _ => false,
+        }
+    }
+
+    /// H: a bundle's home and zone kB of the month. R: zone kB.
+    fn count_data(&mut self, place: Place, n: u64) {
+        if place != Place::Elsewhere && !self.plan.is_prepaid() {
+            self.h += n;
+        }
+        if place == Place::Zone {
+            self.r += n;
+        }
+    }
+
+    /// Next day: 9. Today joins the log, the services step, the day grows,
+    /// and on a month's first day a bundle's H, R and L are set anew.
+    pub fn next_day(&mut self) -> Result<Answer, u32> {
+        if !self.sound() {
+            return Err(0);
+        }
+        if self.day == LAST_DAY {
+            return Err(9);
+        }
+        self.log.truncate(LOG_DAYS - 1);
+        self.log.push_front(self.today);
+        for (service, state) in Service::ALL.into_iter().zip(&mut self.states) {
+            *state = step(*state, &self.log, service);
+        }
+        self.day += 1;
+        self.today = Day::default();
+        if !calendar::is_first_day(self.day) {
+            return Ok(Answer::Done);
+        }
+        if !self.plan.is_prepaid() {
+            if !planted(Wrong::MonthlyUseKept) {
+                self.h = 0;
+            }
+            self.r = 0;
+            self.l = self.plan.limit(caps_on(self.day)[0]);
+        } else if planted(Wrong::PrepaidMonthTurn) {
+            self.renew_prepaid_limit(self.credit, &caps_on(self.day));
+        }
+        Ok(Answer::Done)
+    }
+
+    /// Afford: 3. The largest n for which Use is accepted, 0 if none.
+    pub fn afford(&self, kind: Kind) -> Result<Answer, u32> {
+        self.afford_at(kind, &caps_on(self.day))
+    }
+
+    /// Afford with the caps as an argument. The cost never falls as n grows,
+    /// so the accepted n are those up to a greatest one: it is found by halving.
+    pub fn afford_at(&self, kind: Kind, caps: &Caps) -> Result<Answer, u32> {
+        if !self.sound() {
+            return Err(0);
+        }
+        let place = self.place.ok_or(3u32)?;
+        let purse = self.home + self.extra + self.credit;
+        let room = MAX_LIFETIME - self.lifetime[kind as usize];
+        let (mut least, mut most) = (0, MAX_UNITS.min(room));
+        while least < most {
+            let n = least + (most - least).div_ceil(2);
+            let charge = self.charge(place, kind, n, caps[kind as usize]);
+            if charge.home + charge.extra <= purse {
+                least = n;
+            } else {
+                most = n - 1;
+            }
+        }
+        Ok(Answer::Most(least))
+    }
+
+    /// Any call of a list.
+    pub fn apply(&mut self, call: Call) -> Result<Answer, u32> {
+        match call {
+            Call::Register(place) => self.register(place),
+            Call::Use(kind, n) => self.use_units(kind, n),
+            Call::TopUp(amount) => self.top_up(amount),
+            Call::NextDay => self.next_day(),
+            Call::Afford(kind) => self.afford(kind),
+        }
+    }
+}

@@ -1,0 +1,71 @@
+//! The statement: nine lines from the bytes of a trip file, or `file N`.
+
+use crate::meter::Account;
+use crate::planted::{planted, Wrong};
+use crate::terms::{Call, Kind};
+use crate::tripfile::{self, Trip};
+
+/// day; paid in; credit; home charges; surcharges; whether L is a number (1)
+/// or none (0); L, 0 where none; R; lifetime surcharged kB; refused calls.
+pub type Figures = [u64; 10];
+
+/// What the program prints, each line ended by a line feed.
+pub fn statement(bytes: &[u8]) -> String {
+    text(&figures_of(bytes))
+}
+
+/// The figures of a file, or its number.
+pub fn figures_of(bytes: &[u8]) -> Result<Figures, u32> {
+    let (account, refused) = run(&tripfile::read(bytes)?)?;
+    Ok(figures(&account, refused))
+}
+
+/// Opens the plan and makes the calls; answers the account and how many calls
+/// were refused.
+pub fn run(trip: &Trip) -> Result<(Account, usize), u32> {
+    let mut account = Account::open(trip.plan)?;
+    let mut refused = 0;
+    for (code, number) in &trip.calls {
+        let call = Call::from_words(*code, *number).ok_or(15u32)?;
+        if account.apply(call).is_err() && !planted(Wrong::RefusedNotCounted) {
+            refused += 1;
+        }
+    }
+    Ok((account, refused))
+}
+
+pub fn figures(account: &Account, refused: usize) -> Figures {
+    [
+        u64::from(account.day),
+        account.paid_in,
+        account.credit,
+        account.home,
+        account.extra,
+        u64::from(account.l.is_some()),
+        account.l.unwrap_or(0),
+        account.r,
+        account.surcharged[Kind::Data as usize],
+        refused as u64,
+    ]
+}
+
+/// The lines of an account and its refused calls.
+pub fn lines(account: &Account, refused: usize) -> String {
+    text(&Ok(figures(account, refused)))
+}
+
+/// Figures, or the number of a bad file, in lines.
+pub fn text(outcome: &Result<Figures, u32>) -> String {
+    let [day, paid, credit, home, extra, has_limit, limit, roamed, past, refused] = match outcome {
+        Ok(figures) => figures,
+        Err(number) => return format!("file {number}\n"),
+    };
+    let limit = match has_limit {
+        0 => "none".to_string(),
+        _ => limit.to_string(),
+    };
+    format!(
+        "day {day}\npaid {paid}\ncredit {credit}\nhome {home}\nextra {extra}\nlimit {limit}\n\
+         roamed {roamed}\npast {past}\nrefused {refused}\n"
+    )
+}

@@ -1,0 +1,193 @@
+//! The trip file: reading, finding a section, the reader of calls, writing.
+
+use crate::plan::Plan;
+use crate::planted::{planted, Wrong};
+use crate::terms::Call;
+
+pub const PLAN_KIND: u32 = 1;
+pub const CALLS_KIND: u32 = 2;
+pub const MAX_FILE: usize = 65_536;
+pub const MAX_CALLS: usize = 8_184;
+/// File length, sum word, count, two entries and the plan body.
+pub const BEFORE_CALLS: usize = 64;
+const PLAN_BYTES: usize = 28;
+
+/// A file read whole: the plan and the calls as code and number.
+#[derive(Clone, PartialEq, Eq, Debug)]
+pub struct Trip {
+    pub plan: Plan,
+    pub calls: Vec<(u32, u32)>,
+}
+
+/// One entry of the table; start and length in bytes.
+struct Entry {
+    kind: u32,
+    start: u64,
+    length: u64,
+}
+
+fn word(bytes: &[u8], at: usize) -> u32 {
+    u32::from_le_bytes([bytes[at], bytes[at + 1], bytes[at + 2], bytes[at + 3]])
+}
+
+/// The wrapping 32-bit sum of all words.
+pub fn word_sum(bytes: &[u8]) -> u32 {
+    let words = bytes.chunks_exact(4).map(|chunk| word(chunk, 0));
+    words.fold(0, u32::wrapping_add)
+}
+
+/// 10: length under 12, over 65,536, not a multiple of 4 or not the first word.
+fn check_length(bytes: &[u8]) -> Result<(), u32> {
+    let length = bytes.len();
+    let fits = (12..=MAX_FILE).contains(&length) && length.is_multiple_of(4);
+    if fits && word(bytes, 0) as usize == length {
+        Ok(())
+    } else {
+        Err(10)
+    }
+}
+
+/// 10, 11, 12: the table of a file, its rules checked with exact sums.
+fn table(bytes: &[u8]) -> Result<Vec<Entry>, u32> {
+    check_length(bytes)?;
+    if word_sum(bytes) != 0 && !planted(Wrong::SumNotChecked) {
+        return Err(11);
+    }
+    let count = word(bytes, 8) as usize;
+    if !(1..=8).contains(&count) || 12 + 12 * count > bytes.len() {
+        return Err(12);
+    }
+    let entries: Vec<Entry> = (0..count).map(|i| entry(bytes, 12 + 12 * i)).collect();
+    let mut next = 12 + 12 * count as u64;
+    for entry in &entries {
+        if entry.start != next || entry.length % 4 != 0 {
+            return Err(12);
+        }
+        next += entry.length;
+    }
+    if next != bytes.len() as u64 {
+        return Err(12);
+    }
+    Ok(entries)
+}
+
+fn entry(bytes: &[u8], at: usize) -> Entry {
+    Entry {
+        kind: word(bytes, at),
+        start: u64::from(word(bytes, at + 4)),
+        length: u64::from(word(bytes, at + 8)),
+    }
+}
+
+/// 13: the body of the kind, if it is there just once.
+fn only<'a>(bytes: &'a [u8], entries: &[Entry], kind: u32) -> Result<&'a [u8], u32> {
+    let mut found = entries.iter().filter(|entry| entry.kind == kind);
+    match (found.next(), found.next()) {
+        (Some(entry), None) => {
+            Ok(&bytes[entry.start as usize..(entry.start + entry.length) as usize])
+        }
+        _ => Err(13),
+    }
+}
+
+/// Finding a section: 10, 11, 12, then 13 if that kind isn't there just once.
+/// The answer is that part of the caller's file itself.
+pub fn find(bytes: &[u8], kind: u32) -> Result<&[u8], u32> {
+    only(bytes, &table(bytes)?, kind)
+}
+
+/// Reading: 10, 11, 12, 13, 14, 15, then 1, 2.
+pub fn read(bytes: &[u8]) -> Result<Trip, u32> {
+    let entries = table(bytes)?;
+    let plan_body = only(bytes, &entries, PLAN_KIND)?;
+    let calls_body = only(bytes, &entries, CALLS_KIND)?;
+    if plan_body.len() != PLAN_BYTES || calls_body.is_empty() || calls_body.len() % 8 != 0 {
+        return Err(14);
+    }
+    let calls: Vec<(u32, u32)> = CallReader::new(calls_body).collect();
+    check_calls(calls.iter().copied())?;
+    let plan = Plan::from_words(std::array::from_fn(|i| word(plan_body, 4 * i)));
+    check_plan(&plan)?;
+    Ok(Trip { plan, calls })
+}
+
+/// 15: a code outside 1 to 7, a register number above 2 or a next-day number
+/// that isn't 0.
+fn check_calls(mut calls: impl Iterator<Item = (u32, u32)>) -> Result<(), u32> {
+    if calls.all(|(code, number)| Call::from_words(code, number).is_some()) {
+        Ok(())
+    } else {
+        Err(15)
+    }
+}
+
+/// 1, 2, as for Open.
+fn check_plan(plan: &Plan) -> Result<(), u32> {
+    if !plan.in_ranges() {
+        Err(1)
+    } else if !plan.starts_in_range() {
+        Err(2)
+    } else {
+        Ok(())
+    }
+}
+
+/// The reader that refers to a calls section. It hands out the next 8 bytes
+/// as code and number, unchecked, or none where fewer remain.
+#[derive(Clone, Debug)]
+pub struct CallReader<'a> {
+    pub section: &'a [u8],
+    pub position: usize,
+}
+
+impl<'a> CallReader<'a> {
+    pub fn new(section: &'a [u8]) -> CallReader<'a> {
+        CallReader {
+            section,
+            position: 0,
+        }
+    }
+}
+
+impl Iterator for CallReader<'_> {
+    type Item = (u32, u32);
+
+    fn next(&mut self) -> Option<(u32, u32)> {
+        let rest = self.section.get(self.position..)?;
+        if rest.len() < 8 {
+            return None;
+        }
+        self.position += 8;
+        Some((word(rest, 0), word(rest, 4)))
+    }
+}
+
+/// Writing: 1, 2; 14 no calls, over 8,184, or unequal counts; 15; 16 buffer
+/// too short. Answers the file's length; bytes after the file stay, and a
+/// refusal writes nothing.
+pub fn write(plan: &Plan, codes: &[u32], numbers: &[u32], buf: &mut [u8]) -> Result<usize, u32> {
+    check_plan(plan)?;
+    let count = codes.len();
+    if count == 0 || count > MAX_CALLS || numbers.len() != count {
+        return Err(14);
+    }
+    check_calls(codes.iter().copied().zip(numbers.iter().copied()))?;
+    let length = BEFORE_CALLS + 8 * count;
+    let file = buf.get_mut(..length).ok_or(16u32)?;
+    fill(file, plan, codes, numbers);
+    Ok(length)
+}
+
+/// Sections 1 and 2 in this order; the sum word is solved for last.
+fn fill(file: &mut [u8], plan: &Plan, codes: &[u32], numbers: &[u32]) {
+    let calls_bytes = 8 * codes.len() as u32;
+    let header = [file.len() as u32, 0, 2];
+    let entries = [PLAN_KIND, 36, 28, CALLS_KIND, 64, calls_bytes];
+    let calls = codes.iter().zip(numbers).flat_map(|(c, n)| [*c, *n]);
+    let words = header.into_iter().chain(entries).chain(plan.to_words());
+    for (place, value) in file.chunks_exact_mut(4).zip(words.chain(calls)) {
+        place.copy_from_slice(&value.to_le_bytes());
+    }
+    let sum = word_sum(file);
+    file[4..8].copy_from_slice(&0u32.wrapping_sub(sum).to_le_bytes());
+}

@@ -1,0 +1,28 @@
+//! A few random trips through all checks, and the pair that shows why the
+//! claim about lists is one about all cuts together.
+
+mod common;
+use common::*;
+use reference::check::check_seed;
+use reference::coverage::Coverage;
+use reference::matching::trace;
+
+#[test]
+fn random_trips_hold() {
+    let mut coverage = Coverage::new();
+    for seed in 1_000_000..1_000_040 {
+        check_seed(seed, &mut coverage).unwrap_or_else(|what| panic!("seed {seed}: {what}"));
+    }
+}
+
+#[test]
+fn equal_ends_after_different_stretches() {
+    let plan = unlimited(1461, 11_000);
+    let first = trace(plan, &[home(), data(1), home()]);
+    let second = trace(plan, &[home(), home(), data(1)]);
+    assert_eq!(first.cuts, second.cuts);
+    assert_ne!(first.sums, second.sums);
+    assert_eq!(first.accounts.last(), second.accounts.last());
+    assert_ne!(first.accounts, second.accounts);
+    assert!(first.matches(&second));
+}

@@ -1,0 +1,227 @@
+//! Soundness (refusal 0), the numbers and order of the refusals.
+
+mod common;
+use common::*;
+use reference::meter::{Account, Answer};
+use reference::plan::Plan;
+use reference::rng::Rng;
+use reference::services::{Day, State};
+use reference::terms::{Call, Kind, Place};
+
+fn every_call() -> Vec<Call> {
+    let mut calls = vec![Call::TopUp(1), Call::TopUp(0), Call::NextDay];
+    calls.extend(Place::ALL.map(Call::Register));
+    for kind in Kind::ALL {
+        calls.extend([Call::Use(kind, 1), Call::Use(kind, 0), Call::Afford(kind)]);
+    }
+    calls
+}
+
+/// An account with something in every field, on its 41st day.
+fn busy() -> Account {
+    let mut account = open(bundle(700, 5000, 1000, 100_000));
+    run(&mut account, &[Call::TopUp(1_000_000), zone()]);
+    for _ in 0..40 {
+        run(&mut account, &[data(5000), Call::Use(Kind::Outgoing, 61)]);
+        run(&mut account, &[Call::Use(Kind::Sms, 2), Call::NextDay]);
+    }
+    run(&mut account, &[data(10), Call::Use(Kind::Incoming, 7)]);
+    account
+}
+
+fn assert_refused(account: &Account) {
+    assert!(!account.sound());
+    for call in every_call() {
+        let mut copy = account.clone();
+        assert_eq!(copy.apply(call), Err(0), "{call:?}");
+        assert_eq!(&copy, account);
+    }
+}
+
+#[test]
+fn each_rule_of_soundness_by_itself() {
+    let sound = busy();
+    assert!(sound.sound());
+    let breaks: [fn(&mut Account); 26] = [
+        |a| a.plan.form = 3,
+        |a| a.plan.volume = 0,
+        |a| a.plan.fee = 10_000_001,
+        |a| a.plan.start = 180,
+        |a| a.day = 180,
+        |a| a.day = 3834,
+        |a| a.day = a.plan.start - 1,
+        |a| a.day += 1,
+        |a| a.lifetime[3] = 1_000_000_000_001,
+        |a| a.paid_in = 1_000_000_001,
+        |a| a.home += 1,
+        |a| a.extra -= 1,
+        |a| a.credit += 1,
+        |a| (a.credit, a.home) = (a.credit - 1, a.home + 1),
+        |a| a.r = a.lifetime[0] + 1,
+        |a| a.h = a.lifetime[0] + 1,
+        |a| a.priced[2] = a.lifetime[2] + 1,
+        |a| a.surcharged[2] = a.lifetime[2] + 1,
+        |a| a.today.units[2][0] += 1,
+        |a| a.log[39].units[3][2] += 1,
+        |a| a.cap_sums[2] = 1,
+        |a| a.l = Some(2_000_000_000_000_001),
+        |a| a.log.truncate(39),
+        |a| a.log.push_back(Day::default()),
+        |a| a.states[1] = State::Warned(15),
+        |a| a.log[0].units[0] = [u64::MAX; 3],
+    ];
+    for change in breaks {
+        let mut account = sound.clone();
+        change(&mut account);
+        assert_refused(&account);
+    }
+}
+
+#[test]
+fn paid_in_over_its_limit_is_unsound_though_the_sums_agree() {
+    let mut account = open(prepaid(700, 0, 0, 0));
+    (account.paid_in, account.credit) = (1_000_000_000, 1_000_000_000);
+    assert!(account.sound());
+    (account.paid_in, account.credit) = (1_000_000_001, 1_000_000_001);
+    assert_refused(&account);
+}
+
+/// Reading 22: the list of 01 and nothing more.
+#[test]
+fn odd_accounts_that_are_sound() {
+    let changes: [fn(&mut Account); 7] = [
+        |a| a.l = None,
+        |a| a.l = Some(2_000_000_000_000_000),
+        |a| a.today.marks = [false; 3],
+        |a| a.log[3].marks = [true; 3],
+        |a| a.log[3].units = [[0; 3]; 4],
+        |a| a.states = [State::Warned(14), State::Surcharged, State::Warned(0)],
+        |a| a.place = None,
+    ];
+    for change in changes {
+        let mut account = busy();
+        change(&mut account);
+        assert!(account.sound());
+    }
+    let mut account = open(prepaid(700, 0, 0, 0));
+    account.l = None;
+    assert!(account.sound());
+}
+
+/// Reading 25: any values at all are refused or sound, and nothing overflows.
+#[test]
+fn any_values_never_overflow() {
+    let mut rng = Rng::new(7);
+    let big = |rng: &mut Rng| match rng.below(4) {
+        0 => u64::MAX,
+        1 => rng.below(1000),
+        2 => rng.scaled(u64::MAX >> 2),
+        _ => rng.word(),
+    };
+    for _ in 0..4_000 {
+        let mut account = busy();
+        for _ in 0..rng.between(1, 3) {
+            let value = big(&mut rng);
+            let k = rng.below(4) as usize;
+            match rng.below(14) {
+                0 => account.credit = value,
+                1 => account.paid_in = value,
+                2 => account.home = value,
+                3 => account.extra = value,
+                4 => account.lifetime[k] = value,
+                5 => account.priced[k] = value,
+                6 => account.surcharged[k] = value,
+                7 => account.cap_sums[k] = value,
+                8 => account.h = value,
+                9 => account.r = value,
+                10 => account.l = Some(value),
+                11 => account.log[k].units[k] = [value, u64::MAX, 1],
+                12 => account.day = value as u32,
+                _ => account.plan.fee = value as u32,
+            }
+        }
+        for call in every_call() {
+            let mut copy = account.clone();
+            let got = copy.apply(call);
+            assert_eq!(got == Err(0), !account.sound());
+            assert!(got.is_ok() || copy == account);
+        }
+    }
+}
+
+#[test]
+fn open_refuses_plans_and_days() {
+    let fine = bundle(181, 1_000_000, 10_000_000, 1_073_741_824);
+    assert!(Account::open(fine).is_ok());
+    let words = fine.to_words();
+    let bad = [(0, 3), (2, 1_000_001), (3, 1_000_001), (4, 1_000_001)];
+    let more = [(5, 10_000_001), (6, 0), (6, 1_073_741_825)];
+    for (index, value) in bad.into_iter().chain(more) {
+        let mut other = words;
+        other[index] = value;
+        assert_eq!(Account::open(Plan::from_words(other)), Err(1));
+        other[1] = 180;
+        assert_eq!(Account::open(Plan::from_words(other)), Err(1));
+    }
+    let unused = [[0, 181, 5, 5, 5, 1, 0], [0, 181, 5, 5, 5, 0, 1]];
+    let further = [[2, 181, 1, 5, 5, 5, 0], [2, 181, 0, 5, 5, 5, 1]];
+    for other in unused.into_iter().chain(further) {
+        assert_eq!(Account::open(Plan::from_words(other)), Err(1));
+    }
+    for (start, wanted) in [(180, Err(2)), (3834, Err(2)), (3833, Ok(3833))] {
+        let got = Account::open(Plan { start, ..fine });
+        assert_eq!(got.map(|account| account.day), wanted);
+    }
+}
+
+#[test]
+fn use_refuses_in_the_order_3_4_5_6() {
+    let mut account = open(prepaid(181, 1_000_000, 1_000_000, 1_000_000));
+    assert_eq!(account.apply(data(0)), Err(3));
+    assert_eq!(account.afford(Kind::Sms), Err(3));
+    run(&mut account, &[elsewhere()]);
+    account.lifetime[0] = 999_999_999_999;
+    assert_eq!(account.apply(data(0)), Err(4));
+    assert_eq!(account.apply(data(1_000_000_001)), Err(4));
+    assert_eq!(account.apply(data(2)), Err(5));
+    assert_eq!(account.afford(Kind::Data), Ok(Answer::Most(1)));
+    run(&mut account, &[home()]);
+    assert_eq!(account.apply(data(1_000_000_000)), Err(5));
+    assert_eq!(account.apply(Call::Use(Kind::Sms, 1)), Err(6));
+    assert_eq!(account.afford(Kind::Sms), Ok(Answer::Most(0)));
+    // One kB costs 0 points of its own: accepted with credit 0.
+    assert_eq!(account.apply(data(1)), used(0, 0, 0, false));
+    assert_eq!(account.apply(data(1)), Err(5));
+    assert_eq!(account.afford(Kind::Data), Ok(Answer::Most(0)));
+}
+
+#[test]
+fn top_up_and_next_day_refusals() {
+    let mut account = open(prepaid(3832, 0, 0, 0));
+    assert_eq!(account.top_up(0), Err(7));
+    assert_eq!(account.top_up(10_000_001), Err(7));
+    assert_eq!(account.top_up(u64::MAX), Err(7));
+    for _ in 0..100 {
+        assert_eq!(account.top_up(10_000_000), Ok(Answer::Done));
+    }
+    assert_eq!(account.top_up(1), Err(8));
+    assert_eq!(account.top_up(10_000_001), Err(7));
+    assert_eq!(account.next_day(), Ok(Answer::Done));
+    let last = account.clone();
+    assert_eq!((account.day, account.next_day()), (3833, Err(9)));
+    assert_eq!(account, last);
+    assert_eq!(account.register(Place::Zone), Ok(Answer::Done));
+    assert_eq!(account.l, Some(104_857_600_000));
+}
+
+#[test]
+fn a_thousand_records_of_one_kb_cost_as_much_as_one() {
+    let mut split = open(prepaid(181, 1_000_000, 0, 0));
+    run(&mut split, &[Call::TopUp(10_000), home()]);
+    let mut whole = split.clone();
+    for _ in 0..1000 {
+        split.apply(data(1)).unwrap();
+    }
+    assert_eq!(whole.apply(data(1000)), used(953, 0, 0, false));
+    assert_eq!(split, whole);
+}
