@@ -42,17 +42,17 @@ from-afford-is Accepted n = refl
 from-afford-is (Refused r) n = refl
 
 module _ (a : Account) where
-  pub applied-plain : (c : Call) → accepted-answer a c ≡ Done → _≡_ {A = Applied} (record { answer = answer-by (answer-of a c .answer) Done; account = answer-of a c .account }) (applied a c)
+  pub plain-applied : (c : Call) → accepted-answer a c ≡ Done → _≡_ {A = Applied} (record { answer = answer-by (answer-of a c .answer) Done; account = answer-of a c .account }) (applied a c)
   unfolding answer-of applied
-  applied-plain c e = rw e refl
+  plain-applied c e = rw e refl
 
-  pub applied-use : (k : Kind) (n : ℕ) → _≡_ {A = Applied} (record { answer = from-use (use-result a k n .answer); account = use-result a k n .account }) (applied a (Use k n))
+  pub use-applied : (k : Kind) (n : ℕ) → _≡_ {A = Applied} (record { answer = from-use (use-result a k n .answer); account = use-result a k n .account }) (applied a (Use k n))
   unfolding use-result applied accepted-answer
-  applied-use k n = λ i. record { answer = from-use-is (verdict a (Use k n)) (charge-of (a .state) k (only k n)) i; account = step a (Use k n) }
+  use-applied k n = λ i. record { answer = from-use-is (verdict a (Use k n)) (charge-of (a .state) k (only k n)) i; account = step a (Use k n) }
 
-  pub applied-afford : (k : Kind) → _≡_ {A = Applied} (record { answer = from-afford (afford-result a k .answer); account = afford-result a k .account }) (applied a (Afford k))
+  pub afford-applied : (k : Kind) → _≡_ {A = Applied} (record { answer = from-afford (afford-result a k .answer); account = afford-result a k .account }) (applied a (Afford k))
   unfolding afford-result applied accepted-answer
-  applied-afford k = λ i. record { answer = from-afford-is (verdict a (Afford k)) (afford-of a k) i; account = step a (Afford k) }
+  afford-applied k = λ i. record { answer = from-afford-is (verdict a (Afford k)) (afford-of a k) i; account = step a (Afford k) }
 
   -- a refusal is counted
   never-refused : (c : Call) → count-refused (accepted-answer a c) ≡ 0

@@ -14,6 +14,9 @@ use Rattle.account.specs.declared.Call.{Call}
 use Rattle.account.specs.declared.Call.the-variants.{Register, Use, TopUp, NextDay, Afford}
 use Rattle.account.specs.Calls.{verdict, accepts, step}
 use Rattle.account.specs.declared.AffordAnswer.{AffordAnswer}
+use Rattle.account.specs.declared.Afforded.{Afforded}
+use Rattle.account.specs.declared.Answered.{Answered}
+use Rattle.account.specs.declared.Used.{Used}
 use Rattle.account.specs.declared.AffordAnswer.the-variants as Ask
 use Rattle.metering.specs.declared.UseAnswer.{UseAnswer}
 use Rattle.metering.specs.declared.UseAnswer.the-variants as Take
@@ -50,6 +53,16 @@ from-use (Take.Declined n) = Declined n
 abbrev pub from-afford : AffordAnswer → Answer
 from-afford (Ask.UpTo n) = UpTo n
 from-afford (Ask.Withheld n) = Declined n
+
+-- the same with the account
+abbrev pub applied-plainly : Answered → Applied
+applied-plainly r = record { answer = answer-by (r .answer) Done; account = r .account }
+
+abbrev pub applied-use : Used → Applied
+applied-use r = record { answer = from-use (r .answer); account = r .account }
+
+abbrev pub applied-afford : Afforded → Applied
+applied-afford r = record { answer = from-afford (r .answer); account = r .account }
 
 abbrev pub count-refused : Answer → ℕ
 count-refused Done = 0

@@ -1,7 +1,10 @@
 // One call of any kind, and calls as the trip file codes them, run one after the other. Document 01, "Lists of calls and the book".
 use account::Account;
 use account::AffordAnswer;
+use account::Afforded;
+use account::Answered;
 use account::Call;
+use account::Used;
 use metering::Charge;
 use metering::UseAnswer;
 use tariff::Kind;
@@ -12,7 +15,7 @@ ghost use mathlib.Core.Bool.{Bool, true, false};
 ghost use Prim.Native.Nat.{ℕ, _+_, _≤_, _<_, min};
 ghost use lib.ListN.{length};
 ghost use Rattle.metering.specs.Reasons.{use-answer};
-ghost use Rattle.replay.specs.Replay.{applied, answer-by, from-use, from-afford, count-refused, register-code, other-code, coded, replay-step, replay-of};
+ghost use Rattle.replay.specs.Replay.{applied, applied-plainly, applied-use, applied-afford, answer-by, from-use, from-afford, count-refused, register-code, other-code, coded, replay-step, replay-of};
 
 // What a call answers.
 pub enum Answer {
@@ -66,56 +69,49 @@ fn afford_answer(u: AffordAnswer) -> Answer
     }
 }
 
+fn plain_applied(r: Answered) -> Applied
+    ensures { λ x. ⌜ x ≡ applied-plainly r ⌝ }
+{
+    let v = r.answer;
+    let next = r.account;
+    Applied {
+        answer: plain_answer(v),
+        account: next,
+    }
+}
+
+fn use_applied(r: Used) -> Applied
+    ensures { λ x. ⌜ x ≡ applied-use r ⌝ }
+{
+    let u = r.answer;
+    let next = r.account;
+    Applied {
+        answer: use_answer(u),
+        account: next,
+    }
+}
+
+fn afford_applied(r: Afforded) -> Applied
+    ensures { λ x. ⌜ x ≡ applied-afford r ⌝ }
+{
+    let u = r.answer;
+    let next = r.account;
+    Applied {
+        answer: afford_answer(u),
+        account: next,
+    }
+}
+
 // One call on an account: its answer, and the account.
 pub fn apply(a: Account, c: Call) -> Applied
     ensures { λ r. ⌜ r ≡ applied a c ⌝ }
 {
     match c {
-        Call::Register(p) => {
-            let r = a.register(p);
-            let v = r.answer;
-            let next = r.account;
-            Applied {
-                answer: plain_answer(v),
-                account: next,
-            }
-        }
-        Call::Use(k, n) => {
-            let r = a.use_units(k, n);
-            let u = r.answer;
-            let next = r.account;
-            Applied {
-                answer: use_answer(u),
-                account: next,
-            }
-        }
-        Call::TopUp(n) => {
-            let r = a.top_up(n);
-            let v = r.answer;
-            let next = r.account;
-            Applied {
-                answer: plain_answer(v),
-                account: next,
-            }
-        }
-        Call::NextDay => {
-            let r = a.next_day();
-            let v = r.answer;
-            let next = r.account;
-            Applied {
-                answer: plain_answer(v),
-                account: next,
-            }
-        }
-        Call::Afford(k) => {
-            let r = a.afford(k);
-            let u = r.answer;
-            let next = r.account;
-            Applied {
-                answer: afford_answer(u),
-                account: next,
-            }
-        }
+        Call::Register(p) => plain_applied(a.register(p)),
+        Call::Use(k, n) => use_applied(a.use_units(k, n)),
+        Call::TopUp(n) => plain_applied(a.top_up(n)),
+        Call::NextDay => plain_applied(a.next_day()),
+        Call::Afford(k) => afford_applied(a.afford(k)),
     }
 }
 
