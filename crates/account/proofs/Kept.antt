@@ -19,7 +19,7 @@ use Rattle.tariff.specs.Tests.{all, between, verdict-of, is-accepted}
 use Rattle.tariff.specs.Units.{each, _⊕_, _⊗_, only, of-kind, AtMost}
 use Rattle.tariff.specs.Caps.{caps-on}
 use Rattle.tariff.specs.Charges.{home-charges-of, surcharges-of}
-use Rattle.tariff.specs.Plan.{is-prepaid, open-bundle, plan-verdict, credit-allowance, plan-allowance}
+use Rattle.tariff.specs.Plan.{is-prepaid, open-bundle, plan-verdict, credit-allowance, plan-allowance, plan-reasons, plan-in-range, unused-empty, prices-in-range, terms-in-range}
 use Rattle.tariff.proofs.Tests.{all-nil, all-cons, all-head, all-tail, first-fails, rest-accepts, not-false}
 use Rattle.tariff.proofs.Caps.{caps-bound, basis-grows}
 use Rattle.tariff.proofs.Plans.{plan-ranged, Opens, opens-tells, credit-bounded, fee-bounded}
@@ -38,7 +38,7 @@ use Rattle.presence.proofs.Logs.{over-joined, blank-joined, over-empty, blank-e
 use Rattle.metering.specs.declared.State.{State}
 use Rattle.metering.specs.Use.{billable, roaming, billed-after, newly-surcharged, basis-after, cost, spent}
 use Rattle.metering.specs.Moves.{opened-state, enters, registered, renews, topped, turns-month, next-state-of}
-use Rattle.metering.specs.Sound.{allowance-fits, warning-fits}
+use Rattle.metering.specs.Sound.{allowance-fits, warning-fits, figures-sound}
 use Rattle.metering.specs.Reasons.{use-reasons, top-up-reasons, next-day-reasons}
 use Rattle.metering.proofs.Adding.{Worked, spent-worked, spent-adds, home-grows, extra-grows}
 use Rattle.metering.proofs.Bounds.{billable-bounded, roaming-bounded, billed-of-bounded, newly-bounded}
@@ -47,6 +47,7 @@ use Rattle.account.specs.declared.Account.{Account}
 use Rattle.account.specs.declared.Call.{Call}
 use Rattle.account.specs.declared.Call.the-variants.{Register, Use, TopUp, NextDay, Afford}
 use Rattle.account.specs.Whole.{sound, opened, spend, register-at, top-up-by, day-after}
+use Rattle.account.specs.Answers.{no-plan}
 use Rattle.account.specs.Calls.{own-reasons, reasons, verdict, accepts, after, step}
 use Rattle.account.proofs.Parts.{Logged, log-passes, has-figures, has-charges, has-log}
 
@@ -297,3 +298,8 @@ spend-adds a u v w = λ i. record { state = spent-adds (a .state) u u v v w i; l
 -- equal accounts stay equal under every call
 pub equal-step : (a b : Account) (c : Call) → a ≡ b → step a c ≡ step b c
 equal-step a b c e = ap (λ (x : Account). step x c) e
+
+-- the account that a refused Open hands back is not sound
+pub no-plan-unsound : sound (opened no-plan) ≡ false
+unfolding sound opened opened-state figures-sound all plan-verdict plan-reasons verdict-of plan-in-range unused-empty prices-in-range terms-in-range
+no-plan-unsound = refl
