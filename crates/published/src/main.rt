@@ -1,0 +1,38 @@
+// The published worked examples of the sources, through the functions of the meter. A line that it prints starts with the example's number, or that of a
+// marked figure of 01; comments name source and place. The file `stdout` was written by hand from the published figures. Lek are read as points.
+mod bundles; // bundles.rt: open bundles, their limits and charges
+mod lines; // lines.rt: what is printed
+mod prepaid; // prepaid.rt: limits and charges of a credit
+mod windows; // windows.rt: zone days and service states, through whole accounts
+
+// 002 article 25, the surcharges of 2024; figures 5, 10 and 11.
+fn caps_and_figures() {
+    let caps = tariff::caps_of(730);
+    lines::number(b"E22 caps ", caps.kb);
+    lines::number(b" ", caps.outgoing);
+    lines::number(b" ", caps.incoming);
+    lines::number(b" ", caps.sms);
+    lines::open_line(b"\nfigure 5", 77000, 77000, 1048576);
+    let last = tariff::caps_of(1460);
+    lines::number(b"figure 10 cap ", last.kb);
+    let first = tariff::caps_of(1461);
+    lines::number(b"\nfigure 11 cap ", first.kb);
+    lines::text(b"\n");
+}
+
+fn main() {
+    bundles::published_in_004();
+    bundles::examples_1_to_3();
+    bundles::example_4();
+    bundles::example_5();
+    bundles::examples_6_and_7();
+    bundles::example_8();
+    prepaid::example_9();
+    prepaid::example_10();
+    prepaid::example_11();
+    prepaid::illustrations();
+    caps_and_figures();
+    windows::of_123_days();
+    windows::of_15_days();
+    windows::from_day_181();
+}

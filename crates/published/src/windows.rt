@@ -1,0 +1,79 @@
+// Windows of 123 and of 15 days, 002 articles 32 to 35, through whole accounts from day 181 on.
+use super::lines::number;
+use super::lines::plan;
+use super::lines::text;
+use account::Account;
+use presence::ServiceState;
+use tariff::Form;
+
+// An account whose limit is above all that the examples use.
+fn fresh() -> Account {
+    let r = Account::open(plan(Form::Unlimited, 0, 900000, 0));
+    r.account
+}
+
+// n days, each with a registration (0 home, 1 zone) and a use of data there; fewer if a call is refused.
+fn days(a: Account, place: u32, kb: u32, n: u64) -> Account {
+    let codes = [1u32, 2, 7];
+    let numbers = [place, kb, 0];
+    let mut held = a;
+    let mut i: u64 = 0;
+    while i < n {
+        let r = replay::replay(held, &codes, &numbers);
+        held = r.account;
+        if r.refused > 0 {
+            return held;
+        }
+        i += 1;
+    }
+    held
+}
+
+// The account's day and the state of its data service.
+fn state_line(name: &[u8], a: Account) {
+    let state = a.state;
+    let services = state.services;
+    let internet = services.internet;
+    text(name);
+    number(b" day ", state.day);
+    match internet {
+        ServiceState::Clear => text(b" clear"),
+        ServiceState::Warned(n) => number(b" warned ", n),
+        ServiceState::Surcharged => text(b" surcharged"),
+    }
+    text(b"\n");
+}
+
+// Home days, then zone days, 123 in all. Zone days: 61, of many kB; 62, with as many kB in all as at home; 62, with one kB more than at home.
+pub fn of_123_days() {
+    state_line(
+        b"E32 61 zone days,",
+        days(days(fresh(), 0, 1, 62), 1, 1000, 61),
+    );
+    state_line(
+        b"E32 62 zone days, equal units,",
+        days(days(fresh(), 0, 62, 61), 1, 61, 62),
+    );
+    state_line(
+        b"E32 62 zone days,",
+        days(days(fresh(), 0, 1, 61), 1, 1, 62),
+    );
+}
+
+// The 15 days after the warning, with 7 zone days, of many kB, and with 8, of one kB more in all than at home.
+pub fn of_15_days() {
+    let warned = days(fresh(), 1, 1, 123);
+    state_line(b"E33 7 zone days,", days(days(warned, 0, 1, 8), 1, 1000, 7));
+    state_line(b"E33 8 zone days,", days(days(warned, 0, 1, 7), 1, 1, 8));
+}
+
+// Data used in the zone every day. The count of a warning is 0 to 14.
+pub fn from_day_181() {
+    let clear = days(fresh(), 1, 1, 122);
+    state_line(b"E35", clear);
+    let warned = days(clear, 1, 1, 1);
+    state_line(b"E35", warned);
+    let last = days(warned, 1, 1, 14);
+    state_line(b"E36", last);
+    state_line(b"E35", days(last, 1, 1, 1));
+}
