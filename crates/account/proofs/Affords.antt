@@ -1,11 +1,11 @@
 -- What Afford returns, and that it is the largest use that is accepted. Assumes nothing.
-use Prim.Native.Nat.{ℕ, _≤_, _<_}
+use Prim.Native.Nat.{ℕ, _<_}
 use mathlib.Core.Path.{_≡_, refl, sym, _∙_, ap}
-use mathlib.Core.Bool.{Bool, true, false, not, cond, _&&_}
+use mathlib.Core.Bool.{Bool, true, false, not, cond}
 use lib.Dec.{leb}
 use borrow.Author.Tests.{leb-true, leb-false, lt-leb}
 use Rattle.tariff.specs.declared.Kind.{Kind}
-use Rattle.tariff.specs.declared.Verdict.the-variants.{Accepted, Refused}
+use Rattle.tariff.specs.declared.Verdict.the-variants.{Refused}
 use Rattle.tariff.specs.Tests.{verdict-of, is-accepted}
 use Rattle.tariff.proofs.Tests.{and-false}
 use Rattle.presence.specs.Day.{is-placed}
@@ -60,3 +60,14 @@ afford-is-largest a k = record { passes = largest-passes (λ n. accepts a (Use k
     go : (m : ℕ) → largest (λ n. accepts a (Use k n)) 1000000000 < m → (b : Bool) → leb m 1000000000 ≡ b → accepts a (Use k m) ≡ false
     go m h true e = largest-last (λ n. accepts a (Use k n)) 1000000000 m h (leb-true m 1000000000 e)
     go m h false e = refused-many a k m (leb-false m 1000000000 e)
+
+same : (b : Bool) (a : Account) → cond b a a ≡ a
+same true a = refl
+same false a = refl
+
+pub afford-keeps : (a : Account) (k : Kind) → step a (Afford k) ≡ a
+unfolding step after
+afford-keeps a k = same (accepts a (Afford k)) a
+
+pub log-afforded : (a : Account) (k : Kind) → step a (Afford k) .log ≡ a .log
+log-afforded a k = ap (λ (x : Account). x .log) (afford-keeps a k)

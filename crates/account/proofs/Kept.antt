@@ -1,13 +1,12 @@
 -- An account as Open returns it is sound, and every accepted call keeps a sound account sound; uses add up. Assumes nothing.
-use Prim.Native.Nat.{ℕ, suc, _+_, _*_, _-_, _/_, _≤_, _<_, min}
-use mathlib.Core.Path.{_≡_, refl, sym, _∙_, ap}
+use Prim.Native.Nat.{ℕ, _+_, _*_, _-_, _/_, _≤_, _<_}
+use mathlib.Core.Path.{_≡_, refl, ap}
 use mathlib.Core.Bool.{Bool, true, false, not, cond, _&&_}
-use mathlib.Core.List.{List, [], _∷_}
+use mathlib.Core.List.{List}
 use native.Mathlib.Omega.{arith}
 use native.Mathlib.Numerals.{add-one}
-use lib.Dec.{leb, ltb}
-use lib.ListN.{drop, replicate}
-use borrow.Author.Tests.{leb-true, leb-false, ltb-true, ltb-false, le-leb}
+use lib.Dec.{ltb}
+use borrow.Author.Tests.{leb-false, ltb-true, ltb-false, le-leb}
 use Rattle.tariff.specs.declared.Units.{Units}
 use Rattle.tariff.specs.declared.Kind.{Kind}
 use Rattle.tariff.specs.declared.Kind.the-variants.{Data, Outgoing, Incoming, Sms}
@@ -16,26 +15,24 @@ use Rattle.tariff.specs.declared.Plan.{Plan}
 use Rattle.tariff.specs.declared.Allowance.{Allowance}
 use Rattle.tariff.specs.declared.Allowance.the-variants.{NoLimit, Kilobytes}
 use Rattle.tariff.specs.Tests.{all, between, verdict-of, is-accepted}
-use Rattle.tariff.specs.Units.{each, _⊕_, _⊗_, only, of-kind, AtMost}
+use Rattle.tariff.specs.Units.{_⊕_, only, of-kind, AtMost}
 use Rattle.tariff.specs.Caps.{caps-on}
 use Rattle.tariff.specs.Charges.{home-charges-of, surcharges-of}
 use Rattle.tariff.specs.Plan.{is-prepaid, open-bundle, plan-verdict, credit-allowance, plan-allowance, plan-reasons, plan-in-range, unused-empty, prices-in-range, terms-in-range}
-use Rattle.tariff.proofs.Tests.{all-nil, all-cons, all-head, all-tail, first-fails, rest-accepts, not-false}
+use Rattle.tariff.proofs.Tests.{all-nil, all-cons, first-fails, rest-accepts, not-false}
 use Rattle.tariff.proofs.Caps.{caps-bound, basis-grows}
-use Rattle.tariff.proofs.Plans.{plan-ranged, Opens, opens-tells, credit-bounded, fee-bounded}
+use Rattle.tariff.proofs.Plans.{plan-ranged, opens-tells, credit-bounded, fee-bounded}
 use Rattle.tariff.proofs.Charges.{counted-bounded}
 use Rattle.presence.specs.declared.Location.the-variants.{At}
 use Rattle.presence.specs.declared.Service.{Service}
-use Rattle.presence.specs.declared.Service.the-variants.{DataService, CallService, SmsService}
 use Rattle.presence.specs.declared.ServiceState.{ServiceState}
 use Rattle.presence.specs.declared.ServiceState.the-variants.{Clear, Warned, Surcharged}
 use Rattle.presence.specs.declared.Day.{Day}
-use Rattle.presence.specs.Day.{joined, day-units}
-use Rattle.presence.specs.Log.{units-over, all-blank, lifetime-most}
+use Rattle.presence.specs.Log.{days-of, lifetime-most}
 use Rattle.presence.specs.Service.{state-step, next-state, services-after}
 use Rattle.presence.proofs.Marks.{day-use-bounded, day-mark-bounded}
 use Rattle.presence.proofs.Logs.{over-joined, blank-joined, over-empty, blank-empty}
-use Rattle.metering.specs.declared.State.{State}
+use Rattle.presence.proofs.Numbers.{days-joined, days-empty}
 use Rattle.metering.specs.Use.{billable, roaming, billed-after, newly-surcharged, basis-after, cost, spent}
 use Rattle.metering.specs.Moves.{opened-state, enters, registered, renews, topped, turns-month, next-state-of}
 use Rattle.metering.specs.Sound.{allowance-fits, warning-fits, figures-sound}
@@ -55,7 +52,7 @@ use Rattle.account.proofs.Parts.{Logged, log-passes, has-figures, has-c
 pub record Sound (a : Account) : Type 0 where
   pub figures : Figures (a .state)
   pub money : Balanced (a .state)
-  pub days : Logged (a .log) (a .state .today) (a .state .logged) (a .state .lifetime)
+  pub days : Logged (days-of (a .log)) (a .state .today) (a .state .logged) (a .state .lifetime)
 
 pub sound-tells : (a : Account) → sound a ≡ true → Sound a
 sound-tells a s = record { figures = figures-tell (a .state) (has-figures a s); money = charges-tell (a .state) (has-charges a s); days = has-log a s }
@@ -190,8 +187,8 @@ sound-next a h s =
       };
       money = record { worked = record { home-is = s .money .worked .home-is; extra-is = s .money .worked .extra-is }; balance = s .money .balance };
       days = record {
-        days-ok = rw (add-one (a .state .logged)) (omega (arith, s .days .days-ok, over-joined (a .state .logged) (a .state .today) (a .log) k));
-        rest-ok = rw (add-one (a .state .logged)) (blank-joined (a .state .logged) (a .state .today) (a .log) k (s .days .rest-ok));
+        days-ok = rw (add-one (a .state .logged), days-joined (a .state .today) (a .log)) (omega (arith, s .days .days-ok, over-joined (a .state .logged) (a .state .today) (days-of (a .log)) k));
+        rest-ok = rw (add-one (a .state .logged), days-joined (a .state .today) (a .log)) (blank-joined (a .state .logged) (a .state .today) (days-of (a .log)) k (s .days .rest-ok));
       };
     }
 
@@ -287,7 +284,7 @@ sound-opened p e =
         messages-ok = refl;
       };
       money = record { worked = worked-none p; balance = refl };
-      days = record { days-ok = rw (over-empty 0 123) (omega arith); rest-ok = blank-empty 123 };
+      days = record { days-ok = rw (days-empty, over-empty 0 123) (omega arith); rest-ok = rw days-empty (blank-empty 123) };
     }
 
 -- two uses, one after the other, are one use of their sum

@@ -1,23 +1,22 @@
 -- What soundness tells, part by part. Assumes nothing.
-use Prim.Native.Nat.{ℕ, _+_, _≤_, _<_, min}
+use Prim.Native.Nat.{ℕ, _≤_, _<_}
 use mathlib.Core.Path.{_≡_}
-use mathlib.Core.Bool.{Bool, true}
-use mathlib.Core.List.{List, [], _∷_}
+use mathlib.Core.Bool.{true}
+use mathlib.Core.List.{List}
 use native.Mathlib.Numerals.{add-one}
 use native.Mathlib.Omega.{arith}
 use lib.ListN.{drop}
 use Rattle.tariff.specs.declared.Units.{Units}
-use Rattle.tariff.specs.Tests.{all}
 use Rattle.tariff.specs.Units.{_⊕_, AtMost}
 use Rattle.tariff.proofs.Tests.{all-nil, all-cons, all-head, all-tail}
 use Rattle.tariff.proofs.Sums.{fits-tells, fits-yes}
 use Rattle.presence.specs.declared.Day.{Day}
 use Rattle.presence.specs.Day.{day-units, joined}
-use Rattle.presence.specs.Log.{units-over, all-blank, log-within}
+use Rattle.presence.specs.Log.{days-of, units-over, all-blank, log-within}
 use Rattle.presence.proofs.Logs.{over-joined}
 use Rattle.metering.specs.Sound.{figures-sound, charges-sound}
 use Rattle.metering.specs.Needs.{Steady, Turns}
-use Rattle.metering.proofs.Soundness.{Figures, figures-tell, Balanced, charges-tell}
+use Rattle.metering.proofs.Soundness.{figures-tell, charges-tell}
 use Rattle.account.specs.declared.Account.{Account}
 use Rattle.account.specs.Whole.{sound}
 
@@ -43,7 +42,7 @@ module _ (a : Account) (s : sound a ≡ true) where
   unfolding sound
   has-charges = all-head _ _ (all-tail _ _ s)
 
-  pub has-log : Logged (a .log) (a .state .today) (a .state .logged) (a .state .lifetime)
+  pub has-log : Logged (days-of (a .log)) (a .state .today) (a .state .logged) (a .state .lifetime)
   unfolding sound
   has-log = log-tells _ _ _ _ (all-head _ _ (all-tail _ _ (all-tail _ _ s)))
 
@@ -56,10 +55,10 @@ module _ (a : Account) (s : sound a ≡ true) where
   pub paid-most : a .state .paid ≤ 1000000000
   paid-most = figures-tell (a .state) has-figures .paid-ok
 
-  pub turns : a .state .day < 3833 → Turns (a .state) (joined (a .state .today) (a .log))
+  pub turns : a .state .day < 3833 → Turns (a .state) (joined (a .state .today) (days-of (a .log)))
   turns h =
       let f = figures-tell (a .state) has-figures in
-      let o = over-joined (a .state .logged) (a .state .today) (a .log) (omega (arith, f .logged-ok)) in
+      let o = over-joined (a .state .logged) (a .state .today) (days-of (a .log)) (omega (arith, f .logged-ok)) in
       record {
         figures = has-figures;
         before-end = h;

@@ -1,7 +1,9 @@
 -- What the calls return, reason by reason. Assumes nothing.
 use Prim.Native.Nat.{ℕ, _+_, _≤_, _<_}
-use mathlib.Core.Path.{_≡_, refl}
+use mathlib.Core.Path.{_≡_, refl, sym}
 use mathlib.Core.Bool.{Bool, true, false, cond}
+use mathlib.Core.List.{List}
+use lib.ListN.{length}
 use borrow.Author.Tests.{lt-ltb, le-ltb, le-leb, lt-leb}
 use Rattle.tariff.specs.declared.Kind.{Kind}
 use Rattle.tariff.specs.declared.Place.{Place}
@@ -9,6 +11,8 @@ use Rattle.tariff.specs.declared.Verdict.the-variants.{Accepted, Refused}
 use Rattle.tariff.specs.Tests.{between, verdict-of, is-accepted}
 use Rattle.tariff.specs.Units.{only}
 use Rattle.presence.specs.Day.{joined}
+use Rattle.presence.specs.Log.{days-of, logged-with}
+use Rattle.presence.proofs.Numbers.{logged-size}
 use Rattle.metering.specs.declared.State.{State}
 use Rattle.metering.specs.declared.UseAnswer.the-variants.{Declined}
 use Rattle.metering.specs.Use.{spent}
@@ -18,7 +22,7 @@ use Rattle.account.specs.declared.Account.{Account}
 use Rattle.account.specs.declared.Used.{Used}
 use Rattle.account.specs.declared.Answered.{Answered}
 use Rattle.account.specs.declared.Call.{Call}
-use Rattle.account.specs.declared.Call.the-variants.{Register, Use, TopUp, NextDay}
+use Rattle.account.specs.declared.Call.the-variants.{Register, Use, TopUp, NextDay, Afford}
 use Rattle.account.specs.Whole.{sound, spend, register-at, top-up-by, day-after}
 use Rattle.account.specs.Calls.{own-reasons, reasons, verdict, accepts, after, step}
 use Rattle.account.specs.Answers.{use-result, answer-of}
@@ -68,7 +72,48 @@ module _ (a : Account) (s : sound a ≡ true) where
 
   pub next-yes : a .state .day < 3833
       → _≡_ {A = Answered}
-      (record { answer = Accepted; account = record { state = next-state-of (a .state) (joined (a .state .today) (a .log)); log = joined (a .state .today) (a .log) } })
+      (record { answer = Accepted; account = record { state = next-state-of (a .state) (joined (a .state .today) (days-of (a .log))); log = logged-with (a .state .today) (a .log) } })
       (answer-of a NextDay)
   unfolding answer-of verdict reasons own-reasons verdict-of step accepts next-day-reasons after day-after
   next-yes h = rw (s, lt-leb _ _ h) refl
+
+-- only a day change touches the log
+kept : (b : Bool) (a x : Account) → x .log ≡ a .log → cond b x a .log ≡ a .log
+kept true a x e = e
+kept false a x e = refl
+
+pub register-keeps : (a : Account) (p : Place) → step a (Register p) .log ≡ a .log
+unfolding step after register-at
+register-keeps a p = kept (accepts a (Register p)) a (register-at a p) refl
+
+pub use-keeps : (a : Account) (k : Kind) (n : ℕ) → step a (Use k n) .log ≡ a .log
+unfolding step after spend
+use-keeps a k n = kept (accepts a (Use k n)) a (spend a (only k n)) refl
+
+pub top-up-keeps : (a : Account) (n : ℕ) → step a (TopUp n) .log ≡ a .log
+unfolding step after top-up-by
+top-up-keeps a n = kept (accepts a (TopUp n)) a (top-up-by a n) refl
+
+-- all but the log, and the log, make the account again
+pub joined-answer : (a : Account) (c : Call) (l : List ℕ) → l ≡ step a c .log
+    → _≡_ {A = Answered} (record { answer = answer-of a c .answer; account = record { state = answer-of a c .account .state; log = l } }) (answer-of a c)
+unfolding answer-of
+joined-answer a c l e = λ i. record { answer = answer-of a c .answer; account = record { state = answer-of a c .account .state; log = e i } }
+
+pub joined-use : (a : Account) (k : Kind) (n : ℕ)
+    → _≡_ {A = Used} (record { answer = use-result a k n .answer; account = record { state = use-result a k n .account .state; log = a .log } }) (use-result a k n)
+unfolding use-result
+joined-use a k n = λ i. record { answer = use-result a k n .answer; account = record { state = use-result a k n .account .state; log = sym (use-keeps a k n) i } }
+
+-- the log keeps its size
+size-either : (b : Bool) (a x : Account) → length (a .log) ≡ 1599 → length (x .log) ≡ 1599 → length (cond b x a .log) ≡ 1599
+size-either true a x h k = k
+size-either false a x h k = h
+
+pub step-size : (a : Account) (c : Call) → length (a .log) ≡ 1599 → length (step a c .log) ≡ 1599
+unfolding step after register-at spend top-up-by day-after
+step-size a (Register p) h = size-either (accepts a (Register p)) a _ h h
+step-size a (Use k n) h = size-either (accepts a (Use k n)) a _ h h
+step-size a (TopUp n) h = size-either (accepts a (TopUp n)) a _ h h
+step-size a NextDay h = size-either (accepts a NextDay) a _ h (logged-size (a .state .today) (a .log) h)
+step-size a (Afford k) h = size-either (accepts a (Afford k)) a a h h

@@ -2,6 +2,7 @@
 use Prim.Native.Nat.{ℕ, _<_}
 use mathlib.Core.Path.{_≡_}
 use mathlib.Core.Bool.{Bool, true, false, cond}
+use mathlib.Core.List.{List}
 use Rattle.tariff.specs.declared.Kind.{Kind}
 use Rattle.tariff.specs.declared.Form.the-variants.{Prepaid}
 use Rattle.tariff.specs.declared.Plan.{Plan}
@@ -11,11 +12,14 @@ use Rattle.tariff.specs.Tests.{is-accepted}
 use Rattle.tariff.specs.Units.{only}
 use Rattle.tariff.specs.Plan.{plan-verdict}
 use Rattle.afford.specs.Largest.{largest}
+use Rattle.metering.specs.declared.State.{State}
+use Rattle.metering.specs.declared.StateUsed.{StateUsed}
 use Rattle.metering.specs.Use.{charge-of}
 use Rattle.metering.specs.Reasons.{use-answer}
 use Rattle.account.specs.declared.Account.{Account}
 use Rattle.account.specs.declared.Used.{Used}
 use Rattle.account.specs.declared.Answered.{Answered}
+use Rattle.account.specs.declared.StateAnswered.{StateAnswered}
 use Rattle.account.specs.declared.AffordAnswer.{AffordAnswer}
 use Rattle.account.specs.declared.AffordAnswer.the-variants.{UpTo, Withheld}
 use Rattle.account.specs.declared.Afforded.{Afforded}
@@ -56,3 +60,13 @@ afford-result a k = record { answer = afford-answer (verdict a (Afford k)) (affo
 pub record Affordable (a : Account) (k : Kind) (r : ℕ) : Type 0 where
   pub passes : 0 < r → accepts a (Use k r) ≡ true
   pub none-larger : (m : ℕ) → r < m → accepts a (Use k m) ≡ false
+
+-- an account from all but the log and the log, and what a call answers, with all of the account but its log
+abbrev pub account-of : State → List ℕ → Account
+account-of s l = record { state = s; log = l }
+
+abbrev pub answered-state : Answered → StateAnswered
+answered-state x = record { answer = x .answer; state = x .account .state }
+
+abbrev pub used-state : Used → StateUsed
+used-state x = record { answer = x .answer; state = x .account .state }

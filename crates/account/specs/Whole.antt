@@ -7,8 +7,8 @@ use Rattle.tariff.specs.declared.Units.{Units}
 use Rattle.tariff.specs.declared.Place.{Place}
 use Rattle.tariff.specs.declared.Plan.{Plan}
 use Rattle.tariff.specs.Tests.{all}
-use Rattle.presence.specs.Day.{empty-day, joined}
-use Rattle.presence.specs.Log.{log-within}
+use Rattle.presence.specs.Day.{joined}
+use Rattle.presence.specs.Log.{days-of, logged-with, log-within}
 use Rattle.metering.specs.Use.{spent}
 use Rattle.metering.specs.Moves.{opened-state, registered, topped, next-state-of}
 use Rattle.metering.specs.Sound.{figures-sound, charges-sound}
@@ -19,12 +19,12 @@ unfoldable pub sound : Account → Bool
 sound a = all
     (figures-sound (a .state)
     ∷ charges-sound (a .state)
-    ∷ log-within (a .log) (a .state .today) (a .state .logged) (a .state .lifetime)
+    ∷ log-within (days-of (a .log)) (a .state .today) (a .state .logged) (a .state .lifetime)
     ∷ [])
 
 -- an account as Open returns it, with an empty log
 unfoldable pub opened : Plan → Account
-opened p = record { state = opened-state p; log = replicate 123 empty-day }
+opened p = record { state = opened-state p; log = replicate 1599 0 }
 
 -- Register
 unfoldable pub register-at : Account → Place → Account
@@ -40,4 +40,4 @@ top-up-by a n = record { state = topped (a .state) n; log = a .log }
 
 -- Next day: today joins the log, then the rest follows from the log with it
 unfoldable pub day-after : Account → Account
-day-after a = record { state = next-state-of (a .state) (joined (a .state .today) (a .log)); log = joined (a .state .today) (a .log) }
+day-after a = record { state = next-state-of (a .state) (joined (a .state .today) (days-of (a .log))); log = logged-with (a .state .today) (a .log) }

@@ -1,7 +1,7 @@
 // The account, a value that each call takes and hands back with its answer: document 01, "Account and its calls".
 use metering::State;
+use metering::StateUsed;
 use metering::UseAnswer;
-use presence::Day;
 use tariff::Form;
 use tariff::Kind;
 use tariff::Place;
@@ -11,12 +11,15 @@ ghost use mathlib.Core.Path.{_≡_};
 ghost use mathlib.Core.Bool.{Bool, true, false};
 ghost use Rattle.account.specs.Whole.{sound, opened};
 ghost use Rattle.metering.specs.Needs.{Payable};
-ghost use Rattle.account.specs.Answers.{open-answer, use-result, answer-of, afford-result};
+ghost use Prim.Native.Nat.{ℕ};
+ghost use lib.ListN.{length};
+ghost use Rattle.account.specs.Calls.{step};
+ghost use Rattle.account.specs.Answers.{open-answer, use-result, answer-of, afford-result, account-of, used-state, answered-state};
 
-// All but the log, and the log of the last 123 days, newest first; its places past the logged days are empty.
+// All but the log, and the log of the last 123 days, newest first, 13 numbers to a day; past the logged days it is empty.
 pub struct Account {
     pub state: State,
-    pub log: [Day; 123],
+    pub log: [u64; 1599],
 }
 
 // A call on an account.
@@ -51,6 +54,12 @@ pub struct Answered {
     pub account: Account,
 }
 
+// What a registration, a top-up and a day change answer, with all of the account but its log.
+pub struct StateAnswered {
+    pub answer: Verdict,
+    pub state: State,
+}
+
 fn opened_account(p: Plan) -> Account
     requires { ⌜ Payable p ⌝ }
     ensures { λ r. ⌜ r ≡ opened p ⌝ }
@@ -61,6 +70,121 @@ fn opened_account(p: Plan) -> Account
         state: state,
         log: log,
     }
+}
+
+// Each call on all of an account but its log, with the log lent: the methods and the replay of lists share them, and the log stays where it is.
+
+// Is the account sound? Any values will do.
+fn parts_fit(state: State, log: &[u64; 1599]) -> bool
+    ensures { λ r. ⌜ r ≡ sound (account-of state (now (log .entry))) ⌝ }
+{
+    if !metering::figures_fit(state) {
+        return false;
+    }
+    if !metering::charges_fit(state) {
+        return false;
+    }
+    presence::log_fits(log, state.today, state.logged, state.lifetime)
+}
+
+// Refusal 0.
+pub fn register_with(state: State, log: &[u64; 1599], p: Place) -> StateAnswered
+    ensures { λ r. ⌜ r ≡ answered-state (answer-of (account-of state (now (log .entry))) (Call.Register p)) ⌝ }
+{
+    if !parts_fit(state, log) {
+        return StateAnswered {
+            answer: Verdict::Refused(0),
+            state: state,
+        };
+    }
+    let next = metering::registered_at(state, p);
+    StateAnswered {
+        answer: Verdict::Accepted,
+        state: next,
+    }
+}
+
+// Refusals 0, 3, 4, 5, 6.
+pub fn use_with(state: State, log: &[u64; 1599], k: Kind, n: u64) -> StateUsed
+    ensures { λ r. ⌜ r ≡ used-state (use-result (account-of state (now (log .entry))) k n) ⌝ }
+{
+    if !parts_fit(state, log) {
+        return StateUsed {
+            answer: UseAnswer::Declined(0),
+            state: state,
+        };
+    }
+    metering::use_of(state, k, n)
+}
+
+// Refusals 0, 7, 8.
+pub fn top_up_with(state: State, log: &[u64; 1599], n: u64) -> StateAnswered
+    ensures { λ r. ⌜ r ≡ answered-state (answer-of (account-of state (now (log .entry))) (Call.TopUp n)) ⌝ }
+{
+    if !parts_fit(state, log) {
+        return StateAnswered {
+            answer: Verdict::Refused(0),
+            state: state,
+        };
+    }
+    if !metering::within(1, n, 10000000) {
+        return StateAnswered {
+            answer: Verdict::Refused(7),
+            state: state,
+        };
+    }
+    if state.paid + n > 1000000000 {
+        return StateAnswered {
+            answer: Verdict::Refused(8),
+            state: state,
+        };
+    }
+    let next = metering::topped_by(state, n);
+    StateAnswered {
+        answer: Verdict::Accepted,
+        state: next,
+    }
+}
+
+// Refusals 0, 9.
+pub fn next_day_with(state: State, log: &mut [u64; 1599]) -> StateAnswered
+    requires { ⌜ length (now log) ≡ 1599 ⌝ }
+    ensures answer { λ r. ⌜ r ≡ answered-state (answer-of (account-of state (now (log .entry))) Call.NextDay) ⌝ }
+    ensures shifted { λ _. ⌜ now (log .exit) ≡ step (account-of state (now (log .entry))) Call.NextDay .log ⌝ }
+{
+    if !parts_fit(state, log) {
+        return StateAnswered {
+            answer: Verdict::Refused(0),
+            state: state,
+        };
+    }
+    if state.day >= 3833 {
+        return StateAnswered {
+            answer: Verdict::Refused(9),
+            state: state,
+        };
+    }
+    presence::push(log, state.today);
+    let next = metering::next_from(state, log);
+    StateAnswered {
+        answer: Verdict::Accepted,
+        state: next,
+    }
+}
+
+// Refusals 0, 3.
+pub fn afford_with(state: State, log: &[u64; 1599], k: Kind) -> AffordAnswer
+    ensures { λ r. ⌜ r ≡ afford-result (account-of state (now (log .entry))) k .answer ⌝ }
+{
+    if !parts_fit(state, log) {
+        return AffordAnswer::Withheld(0);
+    }
+    let place = state.place;
+    if !presence::placed(place) {
+        return AffordAnswer::Withheld(3);
+    }
+    let n = afford::most_of(state, k);
+    AffordAnswer::UpTo(n)
 }
 
 impl Account {
@@ -98,30 +222,20 @@ impl Account {
         ensures { λ r. ⌜ r ≡ sound self ⌝ }
     {
         let state = self.state;
-        if !metering::figures_fit(state) {
-            return false;
-        }
-        if !metering::charges_fit(state) {
-            return false;
-        }
-        let log = self.log;
-        presence::log_fits(log, state.today, state.logged, state.lifetime)
+        parts_fit(state, &self.log)
     }
 
     // Refusal 0.
     pub fn register(mut self, p: Place) -> Answered
         ensures { λ r. ⌜ r ≡ answer-of self (Call.Register p) ⌝ }
     {
-        if !self.is_sound() {
-            return Answered {
-                answer: Verdict::Refused(0),
-                account: self,
-            };
-        }
-        let next = metering::registered_at(self.state, p);
+        let state = self.state;
+        let done = register_with(state, &self.log, p);
+        let answer = done.answer;
+        let next = done.state;
         self.state = next;
         Answered {
-            answer: Verdict::Accepted,
+            answer: answer,
             account: self,
         }
     }
@@ -130,19 +244,17 @@ impl Account {
     pub fn use_units(mut self, k: Kind, n: u64) -> Used
         ensures { λ r. ⌜ r ≡ use-result self k n ⌝ }
     {
-        if !self.is_sound() {
-            return Used {
-                answer: UseAnswer::Declined(0),
-                account: self,
-            };
-        }
-        let used = metering::use_of(self.state, k, n);
+        let state = self.state;
+        let used = use_with(state, &self.log, k, n);
         let answer = used.answer;
         let next = used.state;
-        self.state = next;
+        let account = Account {
+            state: next,
+            ..self
+        };
         Used {
             answer: answer,
-            account: self,
+            account: account,
         }
     }
 
@@ -150,29 +262,13 @@ impl Account {
     pub fn top_up(mut self, n: u64) -> Answered
         ensures { λ r. ⌜ r ≡ answer-of self (Call.TopUp n) ⌝ }
     {
-        if !self.is_sound() {
-            return Answered {
-                answer: Verdict::Refused(0),
-                account: self,
-            };
-        }
         let state = self.state;
-        if !metering::within(1, n, 10000000) {
-            return Answered {
-                answer: Verdict::Refused(7),
-                account: self,
-            };
-        }
-        if state.paid + n > 1000000000 {
-            return Answered {
-                answer: Verdict::Refused(8),
-                account: self,
-            };
-        }
-        let next = metering::topped_by(state, n);
+        let done = top_up_with(state, &self.log, n);
+        let answer = done.answer;
+        let next = done.state;
         self.state = next;
         Answered {
-            answer: Verdict::Accepted,
+            answer: answer,
             account: self,
         }
     }
@@ -181,26 +277,13 @@ impl Account {
     pub fn next_day(mut self) -> Answered
         ensures { λ r. ⌜ r ≡ answer-of self Call.NextDay ⌝ }
     {
-        if !self.is_sound() {
-            return Answered {
-                answer: Verdict::Refused(0),
-                account: self,
-            };
-        }
         let state = self.state;
-        if state.day >= 3833 {
-            return Answered {
-                answer: Verdict::Refused(9),
-                account: self,
-            };
-        }
-        let old = self.log;
-        let log = presence::push(old, state.today);
-        let next = metering::next_from(state, log);
+        let done = next_day_with(state, &mut self.log);
+        let answer = done.answer;
+        let next = done.state;
         self.state = next;
-        self.log = log;
         Answered {
-            answer: Verdict::Accepted,
+            answer: answer,
             account: self,
         }
     }
@@ -209,23 +292,10 @@ impl Account {
     pub fn afford(mut self, k: Kind) -> Afforded
         ensures { λ r. ⌜ r ≡ afford-result self k ⌝ }
     {
-        if !self.is_sound() {
-            return Afforded {
-                answer: AffordAnswer::Withheld(0),
-                account: self,
-            };
-        }
         let state = self.state;
-        let place = state.place;
-        if !presence::placed(place) {
-            return Afforded {
-                answer: AffordAnswer::Withheld(3),
-                account: self,
-            };
-        }
-        let n = afford::most_of(state, k);
+        let answer = afford_with(state, &self.log, k);
         Afforded {
-            answer: AffordAnswer::UpTo(n),
+            answer: answer,
             account: self,
         }
     }

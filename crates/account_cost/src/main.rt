@@ -1,13 +1,42 @@
 // A program to count instructions with: it opens an account, fills its log, and makes the calls that standard input asks for: a letter for the call
 // (u use, r register, t top-up, n next day, a Afford) and how many hundreds of it, as a digit. It prints the credit then left.
 use account::Account;
+use metering::State;
 use tariff::Form;
 use tariff::Kind;
 use tariff::Place;
 use tariff::Plan;
 ghost use Prim.Native.Nat.{_<_};
 
-fn days(a: Account, n: u64) -> Account {
+fn paid(start: State, log: &[u64; 1599]) -> State {
+    let mut state = start;
+    let mut i: u64 = 0;
+    while i < 100 {
+        let r = account::top_up_with(state, log, 1000);
+        state = r.state;
+        i += 1;
+    }
+    state
+}
+
+// The account where the calls begin: in the zone, paid for, with 123 logged days.
+fn filled(a: Account) -> Account {
+    let mut log = a.log;
+    let here = account::register_with(a.state, &log, Place::Zone);
+    let mut state = paid(here.state, &log);
+    let mut i: u64 = 0;
+    while i < 130 {
+        let r = account::next_day_with(state, &mut log);
+        state = r.state;
+        i += 1;
+    }
+    Account {
+        state: state,
+        log: log,
+    }
+}
+
+fn days(a: Account, n: u64) -> u64 {
     let mut held = a;
     let mut i: u64 = 0;
     while i < n {
@@ -15,10 +44,11 @@ fn days(a: Account, n: u64) -> Account {
         held = r.account;
         i += 1;
     }
-    held
+    let state = held.state;
+    state.credit
 }
 
-fn uses(a: Account, n: u64) -> Account {
+fn uses(a: Account, n: u64) -> u64 {
     let mut held = a;
     let mut i: u64 = 0;
     while i < n {
@@ -26,10 +56,11 @@ fn uses(a: Account, n: u64) -> Account {
         held = r.account;
         i += 1;
     }
-    held
+    let state = held.state;
+    state.credit
 }
 
-fn registrations(a: Account, n: u64) -> Account {
+fn registrations(a: Account, n: u64) -> u64 {
     let mut held = a;
     let mut i: u64 = 0;
     while i < n {
@@ -37,10 +68,11 @@ fn registrations(a: Account, n: u64) -> Account {
         held = r.account;
         i += 1;
     }
-    held
+    let state = held.state;
+    state.credit
 }
 
-fn top_ups(a: Account, n: u64) -> Account {
+fn top_ups(a: Account, n: u64) -> u64 {
     let mut held = a;
     let mut i: u64 = 0;
     while i < n {
@@ -48,10 +80,11 @@ fn top_ups(a: Account, n: u64) -> Account {
         held = r.account;
         i += 1;
     }
-    held
+    let state = held.state;
+    state.credit
 }
 
-fn affords(a: Account, n: u64) -> Account {
+fn affords(a: Account, n: u64) -> u64 {
     let mut held = a;
     let mut i: u64 = 0;
     while i < n {
@@ -59,10 +92,11 @@ fn affords(a: Account, n: u64) -> Account {
         held = r.account;
         i += 1;
     }
-    held
+    let state = held.state;
+    state.credit
 }
 
-fn calls(a: Account, letter: u8, n: u64) -> Account {
+fn calls(a: Account, letter: u8, n: u64) -> u64 {
     if letter == b'u' {
         return uses(a, n);
     }
@@ -102,13 +136,10 @@ fn main() {
         volume: 0,
     };
     let opened = Account::open(plan);
-    let registered = registrations(opened.account, 1);
-    let paid = top_ups(registered, 100);
-    let full = days(paid, 130);
+    let full = filled(opened.account);
     let mut asked = [0u8; 2];
     io::read_full(0, &mut asked);
-    let done = calls(full, asked[0], 100 * digit(asked[1]));
-    let state = done.state;
-    io::print_decimal(1, state.credit);
+    let credit = calls(full, asked[0], 100 * digit(asked[1]));
+    io::print_decimal(1, credit);
     io::write_all(1, b"\n");
 }

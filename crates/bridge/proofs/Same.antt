@@ -1,6 +1,6 @@
 -- Afford leaves the account, and what the report comes to as numbers. Assumes nothing.
 use Prim.Native.Nat.{ℕ, _+_, _%_, _≤_, _<_}
-use mathlib.Core.Path.{_≡_, refl, sym, _∙_, ap}
+use mathlib.Core.Path.{_≡_, refl, _∙_, ap}
 use mathlib.Core.Bool.{Bool, true, false, cond}
 use mathlib.Core.List.{List}
 use lib.ListN.{length}
@@ -9,7 +9,6 @@ use Rattle.tariff.specs.declared.Kind.{Kind}
 use Rattle.tariff.specs.declared.Plan.{Plan}
 use Rattle.account.specs.declared.Account.{Account}
 use Rattle.account.specs.declared.Afforded.{Afforded}
-use Rattle.account.specs.declared.AffordAnswer.{AffordAnswer}
 use Rattle.account.specs.declared.Call.the-variants.{Afford}
 use Rattle.account.specs.Calls.{accepts, after, step}
 use Rattle.account.specs.Answers.{open-answer, afford-result}
@@ -22,7 +21,7 @@ use Rattle.report.specs.declared.Report.{Report}
 use Rattle.report.specs.declared.Report.the-variants.{Lines, Refused}
 use Rattle.report.specs.Statement.{run-first}
 use Rattle.report.proofs.Running.{file-replayed}
-use Rattle.bridge.specs.Numbers.{with-figures, report-number, statement-number, statement-out, kind-number, afford-number, afford-on, afford-after}
+use Rattle.bridge.specs.Numbers.{with-figures, statement-number, statement-out, kind-number, afford-number, afford-on, afford-after}
 
 pub afford-same : (a : Account) (k : Kind) → afford-result a k .account ≡ a
 unfolding afford-result step after

@@ -1,29 +1,27 @@
 -- After every list of calls the account holds what the journal's entries come to. Assumes nothing.
-use Prim.Native.Nat.{ℕ, zero, suc, _+_, _*_, _-_, _/_, _≤_, _<_, min}
+use Prim.Native.Nat.{ℕ, suc, _+_, _-_, _≤_, min}
 use mathlib.Core.Path.{_≡_, refl, sym, _∙_, ap, ap₂}
-use mathlib.Core.Bool.{Bool, true, false, not, cond, _&&_}
+use mathlib.Core.Bool.{Bool, true, false, cond, _&&_}
 use mathlib.Core.List.{List, [], _∷_}
 use native.Mathlib.Nat.{add-zero, sub-self}
 use native.Mathlib.Numerals.{add-one}
 use native.Mathlib.Omega.{arith}
-use Rattle.tariff.specs.declared.Units.{Units}
 use Rattle.tariff.specs.declared.Kind.{Kind}
 use Rattle.tariff.specs.declared.Place.{Place}
 use Rattle.tariff.specs.declared.Place.the-variants.{Home, Zone, Elsewhere}
 use Rattle.tariff.specs.declared.Form.{Form}
 use Rattle.tariff.specs.declared.Form.the-variants.{Prepaid}
 use Rattle.tariff.specs.declared.Plan.{Plan}
-use Rattle.tariff.specs.declared.Allowance.{Allowance}
-use Rattle.tariff.specs.Units.{zero-units, _⊕_, _⊗_, only}
-use Rattle.tariff.specs.Caps.{caps-on}
-use Rattle.tariff.specs.Plan.{is-prepaid, credit-allowance, plan-allowance}
+use Rattle.tariff.specs.Units.{zero-units, only}
+use Rattle.tariff.specs.Plan.{is-prepaid}
 use Rattle.tariff.specs.Charges.{home-charges-of, surcharges-of}
 use Rattle.presence.specs.declared.Location.{Location}
 use Rattle.presence.specs.declared.Location.the-variants.{Nowhere, At}
-use Rattle.presence.specs.declared.Services.{Services}
 use Rattle.presence.specs.declared.Day.{Day}
 use Rattle.presence.specs.Day.{in-zone, mark-day, add-day, joined}
+use Rattle.presence.specs.Log.{days-of}
 use Rattle.presence.specs.Service.{services-after}
+use Rattle.presence.proofs.Numbers.{days-joined, days-empty}
 use Rattle.metering.specs.Use.{roaming, billed-after, newly-surcharged, basis-after, cost, spent}
 use Rattle.metering.specs.Moves.{opened-state, enters, registered, renews, topped, turns-month, next-state-of}
 use Rattle.metering.proofs.Adding.{Worked, spent-worked, home-grows, extra-grows}
@@ -34,7 +32,7 @@ use Rattle.account.specs.Whole.{opened, spend, register-at, top-up-by, day-afte
 use Rattle.account.specs.Calls.{accepts, after, step}
 use Rattle.account.proofs.Kept.{within-credit, worked-none}
 use Rattle.ledger.specs.Lists.{run, units-of}
-use Rattle.ledger.specs.Journal.{Entry, Journal, new-journal, place-after, day-next, enter, answered, write, amount-of, paid-in, home-part, zone-part, of-month, monthly-kb, billed-units, journal-home, last-place, at-place, comes-in, sets-allowance, changes-month, zone-of-month, zone-since, journal-roamed, marks, marked-on, used-on, day-of, days, last-days, journal-services, new-allowance, journal-allowance, journal-basis, journal-surcharges}
+use Rattle.ledger.specs.Journal.{Entry, Journal, new-journal, place-after, day-next, enter, answered, write, amount-of, paid-in, home-part, zone-part, monthly-kb, billed-units, journal-home, last-place, at-place, comes-in, sets-allowance, changes-month, zone-of-month, zone-since, journal-roamed, marks, marked-on, used-on, day-of, days, last-days, journal-services, new-allowance, journal-allowance, journal-basis, journal-surcharges}
 use Rattle.ledger.specs.Demand3.{Shown, entries-of}
 use Rattle.ledger.proofs.Quiet.{of-month-same, billed-quiet, basis-quiet, monthly-quiet, roamed-quiet}
 use Rattle.ledger.proofs.Months.{Upto, nil, cons, upto-suc, monthly-next, roamed-next, turns-is}
@@ -60,7 +58,7 @@ record Agrees (a : Account) (is : List Entry) : Type 0 where
   roamed-is : a .state .roamed ≡ journal-roamed (a .state .plan) (a .state .day) is
   allowance-is : a .state .allowance ≡ journal-allowance (a .state .plan) is
   today-is : a .state .today ≡ day-of (a .state .day) is
-  log-is : a .log ≡ last-days (days (a .state .plan .start) (past-days a) is)
+  log-is : days-of (a .log) ≡ last-days (days (a .state .plan .start) (past-days a) is)
   logged-is : a .state .logged ≡ min 123 (past-days a)
   services-is : a .state .services ≡ journal-services (a .state .plan .start) (past-days a) is
   worked : Worked (a .state)
@@ -68,7 +66,7 @@ record Agrees (a : Account) (is : List Entry) : Type 0 where
 
 -- the days before today, and the services, with one more entry of today
 module _ (a : Account) (i : Entry) (is : List Entry) (e : i .day ≡ a .state .day) (g : Agrees a is) where
-  log-step : a .log ≡ last-days (days (a .state .plan .start) (past-days a) (i ∷ is))
+  log-step : days-of (a .log) ≡ last-days (days (a .state .plan .start) (past-days a) (i ∷ is))
   log-step = rw (log-skip (a .state .plan .start) (past-days a) i is (omega (arith, g .started))) (g .log-is)
 
   services-step : a .state .services ≡ journal-services (a .state .plan .start) (past-days a) (i ∷ is)
@@ -192,12 +190,12 @@ agrees-afford a k is g =
 
 -- the log with today, the days logged and the services on the next day
 module _ (a : Account) (is : List Entry) (g : Agrees a is) where
-  log-next : joined (a .state .today) (a .log) ≡ last-days (days (a .state .plan .start) (suc (past-days a)) (entry a NextDay ∷ is))
+  log-next : joined (a .state .today) (days-of (a .log)) ≡ last-days (days (a .state .plan .start) (suc (past-days a)) (entry a NextDay ∷ is))
   unfolding days marks units-of place-after
   log-next =
       let i : Entry = entry a NextDay in
       let s : a .state .plan .start + past-days a ≡ a .state .day = omega (arith, g .started) in
-      let l : joined (a .state .today) (a .log) ≡ last-days (day-of (a .state .day) (i ∷ is) ∷ days (a .state .plan .start) (past-days a) (i ∷ is)) =
+      let l : joined (a .state .today) (days-of (a .log)) ≡ last-days (day-of (a .state .day) (i ∷ is) ∷ days (a .state .plan .start) (past-days a) (i ∷ is)) =
       ap₂ joined (g .today-is ∙ day-quiet is (a .state .day) NextDay (a .state .place) refl refl) (log-step a i is refl g)
       ∙ joined-last (day-of (a .state .day) (i ∷ is)) (days (a .state .plan .start) (past-days a) (i ∷ is)) in
       rw s l
@@ -205,7 +203,7 @@ module _ (a : Account) (is : List Entry) (g : Agrees a is) where
   logged-next : min 123 (a .state .logged + 1) ≡ min 123 (suc (past-days a))
   logged-next = omega (arith, g .logged-is)
 
-  services-next : services-after (min 123 (a .state .logged + 1)) (joined (a .state .today) (a .log)) (a .state .services)
+  services-next : services-after (min 123 (a .state .logged + 1)) (joined (a .state .today) (days-of (a .log))) (a .state .services)
       ≡ journal-services (a .state .plan .start) (suc (past-days a)) (entry a NextDay ∷ is)
   unfolding journal-services
   services-next = rw (logged-next, log-next) (ap (services-after _ _) (services-step a (entry a NextDay) is refl g))
@@ -230,7 +228,7 @@ agrees-next a is g =
       roamed-is = cc;
       allowance-is = cc;
       today-is = sym (day-none (a .state .day) (i ∷ is) (cons {i = i} (omega arith) (g .upto)));
-      log-is = rw k (log-next a is g);
+      log-is = rw (k, days-joined (a .state .today) (a .log)) (log-next a is g);
       logged-is = rw k (logged-next a is g);
       services-is = rw k (services-next a is g);
       worked = record { home-is = g .worked .home-is; extra-is = g .worked .extra-is };
@@ -348,7 +346,7 @@ agrees-opened p = record {
   roamed-is = none-yet (is-prepaid (p .form));
   allowance-is = refl;
   today-is = refl;
-  log-is = rw (sub-self (p .start));
+  log-is = rw (sub-self (p .start)) days-empty;
   logged-is = rw (sub-self (p .start));
   services-is = rw (sub-self (p .start));
   worked = worked-none p;

@@ -1,10 +1,9 @@
 -- Demand 3, and the match from any sound account. Assumes nothing.
 use mathlib.Core.Path.{_≡_, refl, sym, _∙_, ap, subst}
-use mathlib.Core.Bool.{Bool, true, false, cond}
+use mathlib.Core.Bool.{true}
 use mathlib.Core.List.{List, [], _∷_}
 use Rattle.tariff.specs.declared.Plan.{Plan}
-use Rattle.tariff.specs.declared.Verdict.{Verdict}
-use Rattle.tariff.specs.declared.Verdict.the-variants.{Accepted, Refused}
+use Rattle.tariff.specs.declared.Verdict.the-variants.{Accepted}
 use Rattle.tariff.specs.Tests.{is-accepted}
 use Rattle.tariff.specs.Plan.{plan-verdict}
 use Rattle.account.specs.declared.Account.{Account}
@@ -13,8 +12,8 @@ use Rattle.account.specs.declared.Call.{Call}
 use Rattle.account.specs.Whole.{sound, opened}
 use Rattle.account.specs.Calls.{step}
 use Rattle.account.specs.Answers.{open-answer}
-use Rattle.account.proofs.Kept.{Sound, sound-tells, sound-passes, sound-step, sound-opened, worked-none}
-use Rattle.ledger.specs.Lists.{run, accepted, boundaries, segments, snapshots}
+use Rattle.account.proofs.Kept.{Sound, sound-tells, sound-passes, sound-step, sound-opened}
+use Rattle.ledger.specs.Lists.{run, accepted}
 use Rattle.ledger.specs.Demand3.{Demand3, MatchesFromSound, Matches, OpensAs, Shown, entries-of}
 use Rattle.ledger.proofs.Match.{matching}
 use Rattle.ledger.proofs.Book.{balanced}

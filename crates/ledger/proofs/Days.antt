@@ -1,15 +1,14 @@
 -- The journal's days: their marks and units, one entry at a time, the days before today, and the services. Assumes nothing.
-use Prim.Native.Nat.{ℕ, zero, suc, _+_, _-_, _≤_, _<_, min}
+use Prim.Native.Nat.{ℕ, zero, suc, _+_, _-_, _≤_}
 use mathlib.Core.Path.{_≡_, refl, sym, _∙_, ap}
 use mathlib.Core.Bool.{Bool, true, false, cond, _&&_, _||_}
 use mathlib.Core.List.{List, [], _∷_, _++_}
 use native.Mathlib.Nat.{add-zero}
 use native.Mathlib.Omega.{arith}
 use lib.Dec.{eqb, lit≤}
-use lib.ListN.{take, replicate}
+use lib.ListN.{replicate}
 use lib.Seq.{take-take}
 use borrow.Author.Tests.{eq-eqb, ne-eqb}
-use Rattle.tariff.specs.declared.Units.{Units}
 use Rattle.tariff.specs.declared.Kind.{Kind}
 use Rattle.tariff.specs.declared.Place.{Place}
 use Rattle.tariff.specs.declared.Place.the-variants.{Home, Zone, Elsewhere}
@@ -18,9 +17,8 @@ use Rattle.presence.specs.declared.Location.{Location}
 use Rattle.presence.specs.declared.Location.the-variants.{Nowhere, At}
 use Rattle.presence.specs.declared.Day.{Day}
 use Rattle.presence.specs.Day.{empty-day, mark-day, add-day, joined}
-use Rattle.presence.specs.Service.{services-after}
 use Rattle.account.specs.declared.Call.{Call}
-use Rattle.account.specs.declared.Call.the-variants.{Register, Use, TopUp, NextDay, Afford}
+use Rattle.account.specs.declared.Call.the-variants.{Register, Use}
 use Rattle.ledger.specs.Lists.{units-of}
 use Rattle.ledger.specs.Journal.{Entry, at-place, marks, marked-on, used-on, day-of, days, last-days, journal-services}
 use Rattle.ledger.proofs.Quiet.{⊕-zero}

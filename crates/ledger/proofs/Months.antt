@@ -1,5 +1,5 @@
 -- The journal's sums of a month, from one day to the next. Assumes nothing.
-use Prim.Native.Nat.{ℕ, suc, _+_, _≤_, _<_}
+use Prim.Native.Nat.{ℕ, suc, _≤_, _<_}
 use mathlib.Core.Path.{_≡_, refl, sym, _∙_}
 use mathlib.Core.Bool.{Bool, true, false, not, cond, _&&_}
 use mathlib.Core.List.{List, [], _∷_}
@@ -15,7 +15,7 @@ use Rattle.tariff.specs.Plan.{is-prepaid}
 use Rattle.tariff.specs.Charges.{counted-kb}
 use Rattle.metering.specs.Moves.{turns-month}
 use Rattle.account.specs.declared.Call.the-variants.{NextDay}
-use Rattle.ledger.specs.Journal.{Entry, home-part, zone-part, of-month, monthly-kb, changes-month, zone-of-month, journal-roamed}
+use Rattle.ledger.specs.Journal.{Entry, home-part, of-month, monthly-kb, changes-month, zone-of-month, journal-roamed}
 use Rattle.ledger.proofs.Quiet.{of-month-none}
 
 -- every entry's day is at most d

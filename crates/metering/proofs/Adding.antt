@@ -1,13 +1,13 @@
 -- Uses add up: two uses, one after the other, come to one use of their sum. Assumes nothing.
-use Prim.Native.Nat.{ℕ, _+_, _*_, _-_, _≤_}
-use mathlib.Core.Path.{_≡_, refl, sym, _∙_, ap}
+use Prim.Native.Nat.{ℕ, _+_, _-_, _≤_}
+use mathlib.Core.Path.{_≡_, refl, _∙_, ap}
 use native.Mathlib.Nat.{add-assoc}
 use native.Mathlib.Omega.{arith}
 use Rattle.tariff.specs.declared.Units.{Units}
 use Rattle.tariff.specs.declared.Place.the-variants.{Home, Zone, Elsewhere}
 use Rattle.tariff.specs.declared.Plan.{Plan}
 use Rattle.tariff.specs.declared.Allowance.{Allowance}
-use Rattle.tariff.specs.Units.{_⊕_, _⊗_, AtMost}
+use Rattle.tariff.specs.Units.{_⊕_, _⊗_}
 use Rattle.tariff.specs.Caps.{caps-on}
 use Rattle.tariff.specs.Charges.{counted-kb, home-charges-of, surcharges-of}
 use Rattle.tariff.proofs.Sums.{⊕-assoc, ⊗-⊕, at-most-sum}

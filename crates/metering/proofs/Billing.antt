@@ -1,11 +1,11 @@
 -- The bounds of what a use makes of the sums, on a sound account. Assumes nothing.
-use Prim.Native.Nat.{ℕ, _+_, _*_, _-_, _≤_}
+use Prim.Native.Nat.{_+_, _-_, _≤_}
 use mathlib.Core.Path.{_≡_, refl}
 use native.Mathlib.Nat.{mul-le-mul}
 use native.Mathlib.Omega.{arith}
 use Rattle.tariff.specs.declared.Units.{Units}
 use Rattle.tariff.specs.declared.Place.the-variants.{Home, Zone, Elsewhere}
-use Rattle.tariff.specs.Units.{each, _⊕_, _⊗_, AtMost, Adds, Multiplies}
+use Rattle.tariff.specs.Units.{each, _⊗_, AtMost, Adds, Multiplies}
 use Rattle.tariff.specs.Caps.{caps-on}
 use Rattle.tariff.specs.Charges.{counted-kb, PriceFits, BasisFits}
 use Rattle.tariff.proofs.Caps.{caps-bound}
@@ -18,9 +18,9 @@ use Rattle.metering.specs.declared.State.{State}
 use Rattle.metering.specs.declared.Bill.{Bill}
 use Rattle.metering.specs.Use.{billable, roaming, billed-of, billed-after, newly-surcharged, basis-after, home-after, extra-after, cost}
 use Rattle.metering.specs.Needs.{Ready, Steady, bill-of}
-use Rattle.metering.proofs.Adding.{Worked, home-grows, extra-grows}
+use Rattle.metering.proofs.Adding.{home-grows, extra-grows}
 use Rattle.metering.proofs.Bounds.{billable-bounded, roaming-bounded, billed-of-bounded, newly-bounded}
-use Rattle.metering.proofs.Soundness.{Figures, figures-tell, charges-tell, plan-of-state, basis-held}
+use Rattle.metering.proofs.Soundness.{Figures, figures-tell, charges-tell, plan-of-state}
 
 billed-in : (a : State) (u : Units) → AtMost (billed-of (a .plan) (a .monthly) (billable (a .place) u)) u
 billed-in a u = omega (arith, billable-bounded (a .place) u, billed-of-bounded (a .plan) (a .monthly) (billable (a .place) u))

@@ -1,19 +1,16 @@
 -- What the tests of soundness tell, and what makes them pass. Assumes nothing.
-use Prim.Native.Nat.{ℕ, _+_, _*_, _-_, _≤_, min}
+use Prim.Native.Nat.{_+_, _-_, _≤_, min}
 use mathlib.Core.Path.{_≡_}
-use mathlib.Core.Bool.{Bool, true}
-use mathlib.Core.List.{List, [], _∷_}
+use mathlib.Core.Bool.{true}
 use native.Mathlib.Omega.{arith}
-use lib.Dec.{leb, eqb}
 use borrow.Author.Tests.{eqb-true, eq-eqb, leb-true, le-leb}
-use Rattle.tariff.specs.declared.Units.{Units}
-use Rattle.tariff.specs.Tests.{all, is-accepted}
-use Rattle.tariff.specs.Units.{each, _⊗_, fits, AtMost}
+use Rattle.tariff.specs.Tests.{is-accepted}
+use Rattle.tariff.specs.Units.{each, _⊗_, AtMost}
 use Rattle.tariff.specs.Plan.{plan-verdict}
-use Rattle.tariff.specs.Charges.{home-charges-of, surcharges-of, PriceFits, BasisFits}
+use Rattle.tariff.specs.Charges.{PriceFits, BasisFits}
 use Rattle.tariff.proofs.Tests.{all-nil, all-cons, all-head, all-tail}
 use Rattle.tariff.proofs.Sums.{fits-tells, fits-yes}
-use Rattle.tariff.proofs.Plans.{Ranged, plan-ranged, Opens, opens-tells}
+use Rattle.tariff.proofs.Plans.{Ranged, plan-ranged, opens-tells}
 use Rattle.presence.specs.Log.{lifetime-most}
 use Rattle.metering.specs.declared.State.{State}
 use Rattle.metering.specs.Sound.{allowance-fits, warning-fits, figures-sound, charges-sound}

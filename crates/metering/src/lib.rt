@@ -18,6 +18,7 @@ ghost use Rattle.tariff.specs.Tests.{between, is-accepted};
 ghost use Rattle.tariff.specs.Units.{each, zero-units, _⊗_, only, fits, AtMost};
 ghost use Rattle.tariff.specs.Caps.{caps-on};
 ghost use Rattle.tariff.specs.Plan.{plan-verdict, credit-allowance};
+ghost use Rattle.presence.specs.Log.{days-of};
 ghost use Rattle.metering.specs.Use.{billable, roaming, billed-of, surcharged-of, surcharged-units, spent, notice-of, charge-of};
 ghost use Rattle.metering.specs.Moves.{opened-state, enters, renews, turns-month, registered, topped, next-state-of};
 ghost use Rattle.metering.specs.Sound.{allowance-fits, warning-fits, figures-sound, charges-sound};
@@ -498,9 +499,9 @@ fn least(m: usize, n: usize) -> usize
 }
 
 // All but the log on the next day, where the log has today in it.
-pub fn next_from(a: State, log: [Day; 123]) -> State
-    requires { ⌜ Turns a log ⌝ }
-    ensures { λ r. ⌜ r ≡ next-state-of a log ⌝ }
+pub fn next_from(a: State, log: &[u64; 1599]) -> State
+    requires { ⌜ Turns a (days-of (now log)) ⌝ }
+    ensures { λ r. ⌜ r ≡ next-state-of a (days-of (now (log .entry))) ⌝ }
 {
     let plan = a.plan;
     let form = plan.form;

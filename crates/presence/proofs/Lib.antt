@@ -1,4 +1,5 @@
 pub mod Marks
+pub mod Numbers
 pub mod Shift
 pub mod Logs
 pub mod Ceiling

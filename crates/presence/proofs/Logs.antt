@@ -1,7 +1,7 @@
 -- The units of the logged days, one day at a time, as a day joins, and places that hold no day. Assumes nothing.
 use Prim.Native.Nat.{ℕ, zero, suc, _+_, _-_, _≤_, _<_, min}
-use mathlib.Core.Path.{_≡_, refl, sym, _∙_, ap}
-use mathlib.Core.Bool.{Bool, true, false, not, _&&_}
+use mathlib.Core.Path.{_≡_, refl, ap}
+use mathlib.Core.Bool.{Bool, true, false, not}
 use mathlib.Core.List.{List, [], _∷_}
 use native.Mathlib.Omega.{arith}
 use native.Mathlib.Numerals.{add-one}
@@ -9,7 +9,6 @@ use lib.Dec.{ltb, eqb, lit≤}
 use borrow.Author.Tests.{ltb-true, ltb-false, eqb-true, eqb-false}
 use lib.ListN.{take, drop, getD, length, replicate, drop-of-length-le}
 use lib.Seq.{getD-take, drop-cons}
-use Rattle.tariff.specs.declared.Units.{Units}
 use Rattle.tariff.specs.Units.{zero-units, _⊕_, AtMost}
 use Rattle.tariff.proofs.Tests.{and-left, and-right}
 use Rattle.presence.specs.declared.Day.{Day}

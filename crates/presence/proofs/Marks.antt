@@ -1,12 +1,10 @@
 -- A day's marks and units: what adds up, and how far. Assumes nothing.
-use Prim.Native.Nat.{ℕ, _+_, _≤_}
 use mathlib.Core.Path.{_≡_, refl}
 use native.Mathlib.Nat.{add-assoc}
 use native.Mathlib.Omega.{arith}
 use Rattle.tariff.specs.declared.Units.{Units}
-use Rattle.tariff.specs.declared.Place.{Place}
 use Rattle.tariff.specs.declared.Place.the-variants.{Home, Zone, Elsewhere}
-use Rattle.tariff.specs.Units.{zero-units, _⊕_, AtMost}
+use Rattle.tariff.specs.Units.{_⊕_, AtMost}
 use Rattle.presence.specs.declared.Location.{Location}
 use Rattle.presence.specs.declared.Location.the-variants.{Nowhere, At}
 use Rattle.presence.specs.declared.Day.{Day}

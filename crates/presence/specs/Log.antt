@@ -1,13 +1,51 @@
--- 01, "Account and its calls", what a sound account's log holds. Assumes nothing.
-use Prim.Native.Nat.{ℕ, zero, suc}
-use mathlib.Core.Bool.{Bool, true, not, _&&_}
-use mathlib.Core.List.{List, [], _∷_}
-use lib.ListN.{getD, drop}
+-- 01, "Account and its calls": the log of the last days as it is kept, and what a sound account's log holds. Assumes nothing.
+use Prim.Native.Nat.{ℕ, zero, suc, _+_, _*_, _/_, _%_}
+use mathlib.Core.Bool.{Bool, true, not, cond, _&&_}
+use mathlib.Core.List.{List, [], _∷_, _++_}
+use lib.Dec.{eqb}
+use lib.ListN.{getD, drop, take}
 use Rattle.tariff.specs.declared.Units.{Units}
 use Rattle.tariff.specs.Tests.{all}
 use Rattle.tariff.specs.Units.{each, zero-units, _⊕_, fits, no-units}
 use Rattle.presence.specs.declared.Day.{Day}
 use Rattle.presence.specs.Day.{empty-day, day-units}
+
+-- a day's marks as one number: 1 for home, 2 for zone, 4 for elsewhere, added up
+abbrev pub marks-number : Day → ℕ
+marks-number d = cond (d .home) 1 0 + 2 * cond (d .zone) 1 0 + 4 * cond (d .elsewhere) 1 0
+
+-- a day of the log as 13 numbers: its marks, and its units of each kind at home, in the zone, elsewhere
+unfoldable pub numbers-of : Day → List ℕ
+numbers-of d =
+    marks-number d
+    ∷ d .athome .kb ∷ d .athome .outgoing ∷ d .athome .incoming ∷ d .athome .sms
+    ∷ d .inzone .kb ∷ d .inzone .outgoing ∷ d .inzone .incoming ∷ d .inzone .sms
+    ∷ d .outside .kb ∷ d .outside .outgoing ∷ d .outside .incoming ∷ d .outside .sms
+    ∷ []
+
+-- the day that a list's first 13 numbers stand for
+unfoldable pub day-from : List ℕ → Day
+day-from xs = record {
+  home = eqb (getD xs 0 0 % 2) 1;
+  zone = eqb (getD xs 0 0 / 2 % 2) 1;
+  elsewhere = eqb (getD xs 0 0 / 4 % 2) 1;
+  athome = each (getD xs 1 0) (getD xs 2 0) (getD xs 3 0) (getD xs 4 0);
+  inzone = each (getD xs 5 0) (getD xs 6 0) (getD xs 7 0) (getD xs 8 0);
+  outside = each (getD xs 9 0) (getD xs 10 0) (getD xs 11 0) (getD xs 12 0);
+}
+
+-- the first n days of a list of numbers
+unfoldable pub days-first : ℕ → List ℕ → List Day
+days-first zero xs = []
+days-first (suc n) xs = day-from xs ∷ days-first n (drop 13 xs)
+
+-- the days of a log, newest first
+unfoldable pub days-of : List ℕ → List Day
+days-of xs = days-first 123 xs
+
+-- "today joins the log of the last 123 days (older ones drop)", in the numbers that are kept
+unfoldable pub logged-with : Day → List ℕ → List ℕ
+logged-with d xs = take 1599 (numbers-of d ++ xs)
 
 -- the units of the first n days of the log, wherever used
 unfoldable pub units-over : ℕ → List Day → Units

@@ -3,16 +3,16 @@ use tariff::Place;
 use tariff::Units;
 ghost use mathlib.Core.Path.{_≡_};
 ghost use mathlib.Core.Bool.{Bool, true, false, cond, _&&_};
-ghost use mathlib.Core.List.{[], _∷_};
+ghost use mathlib.Core.List.{_++_};
 ghost use Prim.Native.Nat.{ℕ, _+_, _≤_, _<_, min};
 ghost use lib.Dec.{leb, ltb};
-ghost use lib.ListN.{drop, replicate};
+ghost use lib.ListN.{drop, replicate, take, getD, length};
 ghost use Rattle.tariff.specs.Units.{_⊕_, each, AtMost};
-ghost use Rattle.presence.specs.Day.{in-zone, is-placed, mark-day, add-day, DayAdds, counts-as, zone-day, day-units, empty-day, joined};
+ghost use Rattle.presence.specs.Day.{in-zone, is-placed, mark-day, add-day, DayAdds, counts-as, zone-day, day-units, empty-day};
 ghost use Rattle.presence.specs.Window.{zone-units, other-units, window-sums, sums-zone, sums-other, prevailing};
 ghost use Rattle.presence.specs.Service.{next-state, state-step, services-after};
-ghost use Rattle.presence.specs.Log.{units-over, blank, all-blank, lifetime-most, log-within};
-ghost use Rattle.presence.specs.Held.{held, Low, sum-to, Filled, Summable, column-sums, both-windows, stepped-by};
+ghost use Rattle.presence.specs.Log.{marks-number, numbers-of, days-of, logged-with, units-over, blank, all-blank, lifetime-most, log-within};
+ghost use Rattle.presence.specs.Held.{held, Low, Small, sums-with, both-windows, stepped-by};
 
 // Where the hotspot is: nowhere before the first registration.
 pub enum Location {
@@ -55,17 +55,6 @@ pub struct Services {
     pub internet: ServiceState,
     pub calls: ServiceState,
     pub messages: ServiceState,
-}
-
-// The numbers of each logged day that a window adds up, newest day first.
-struct Columns {
-    days: [u64; 123],
-    zonekb: [u64; 123],
-    otherkb: [u64; 123],
-    zonecalls: [u64; 123],
-    othercalls: [u64; 123],
-    zonesms: [u64; 123],
-    othersms: [u64; 123],
 }
 
 // The sums of a window: zone days, and each service's zone and other units.
@@ -135,12 +124,12 @@ pub fn day_empty() -> Day
     }
 }
 
-// A log without days.
-pub fn log_empty() -> [Day; 123]
-    ensures { λ r. ⌜ r ≡ replicate 123 empty-day ⌝ }
+// A log without days. The log is kept as 123 days of 13 numbers, newest day first: the marks as one number, then the units of each kind at home, in
+// the zone and elsewhere.
+pub fn log_empty() -> [u64; 1599]
+    ensures { λ r. ⌜ r ≡ replicate 1599 0 ⌝ }
 {
-    let d = day_empty();
-    [d; 123]
+    [0u64; 1599]
 }
 
 fn mark_place(p: Place, mut d: Day) -> Day
@@ -256,60 +245,144 @@ fn other_of(d: Day, s: Service) -> u64
     }
 }
 
-// The log with one day more; the oldest drops where it was full.
-pub fn push(log: [Day; 123], d: Day) -> [Day; 123]
-    ensures { λ r. ⌜ r ≡ joined d log ⌝ }
+// Four numbers of the log, from place j on: the units of a day at one place.
+fn units_at(log: &[u64; 1599], j: usize) -> Units
+    requires { ⌜ j + 4 ≤ 1599 ⌝ }
+    ensures { λ r. ⌜ r ≡ each (getD (now (log .entry)) j 0) (getD (now (log .entry)) (j + 1) 0) (getD (now (log .entry)) (j + 2) 0) (getD (now (log .entry)) (j + 3) 0) ⌝ }
 {
-    let mut out = log;
-    out[0] = d;
-    let mut i: usize = 1;
-    while i < 123 {
-        out[i] = log[i - 1];
-        i += 1;
+    let kb = log[j];
+    let outgoing = log[j + 1];
+    let incoming = log[j + 2];
+    let sms = log[j + 3];
+    Units {
+        kb: kb,
+        outgoing: outgoing,
+        incoming: incoming,
+        sms: sms,
     }
-    out
 }
 
-// The columns of the first n days of the log.
-fn fill_columns(log: [Day; 123], n: usize) -> Columns
-    requires { ⌜ (n ≤ 123) × Low (units-over n log) ⌝ }
-    ensures { λ r. ⌜ Filled n r log ⌝ }
+// Day i of the log; 0 is the newest.
+fn day_at(log: &[u64; 1599], i: usize) -> Day
+    requires { ⌜ i < 123 ⌝ }
+    ensures { λ r. ⌜ r ≡ getD (days-of (now (log .entry))) i empty-day ⌝ }
 {
-    let zero = [0u64; 123];
-    let mut c = Columns {
-        days: zero,
-        zonekb: zero,
-        otherkb: zero,
-        zonecalls: zero,
-        othercalls: zero,
-        zonesms: zero,
-        othersms: zero,
-    };
-    let mut i: usize = 0;
-    while i < n {
-        let d = log[i];
-        c.days[i] = zone_bit(d);
-        c.zonekb[i] = zone_of(d, Service::DataService);
-        c.otherkb[i] = other_of(d, Service::DataService);
-        c.zonecalls[i] = zone_of(d, Service::CallService);
-        c.othercalls[i] = other_of(d, Service::CallService);
-        c.zonesms[i] = zone_of(d, Service::SmsService);
-        c.othersms[i] = other_of(d, Service::SmsService);
-        i += 1;
+    let j = 13 * i;
+    let marks = log[j];
+    let athome = units_at(log, j + 1);
+    let inzone = units_at(log, j + 5);
+    let outside = units_at(log, j + 9);
+    Day {
+        home: marks % 2 == 1,
+        zone: (marks / 2) % 2 == 1,
+        elsewhere: (marks / 4) % 2 == 1,
+        athome: athome,
+        inzone: inzone,
+        outside: outside,
     }
-    c
 }
 
-// The sum of the first w numbers: the last of them, and the sum of one less.
-fn sum_last(column: &[u64; 123], w: usize) -> u64
-    requires { ⌜ (w ≤ 123) × (sum-to w (now column) ≤ 5000000000000) ⌝ }
-    ensures { λ r. ⌜ r ≡ sum-to w (now (column .entry)) ⌝ }
+// Every day one place on; the oldest drops.
+fn shift_days(log: &mut [u64; 1599])
+    requires { ⌜ length (now log) ≡ 1599 ⌝ }
+    ensures { λ _. ⌜ (length (now (log .exit)) ≡ 1599) × (drop 13 (now (log .exit)) ≡ take 1586 (now (log .entry))) ⌝ }
+{
+    let mut i: usize = 1599;
+    while i > 13 {
+        i -= 1;
+        log[i] = log[i - 13];
+    }
+}
+
+fn one_if(b: bool) -> u64
+    ensures { λ r. ⌜ (r ≡ cond b 1 0) × (r ≤ 1) ⌝ }
+{
+    if b { 1 } else { 0 }
+}
+
+fn marks_of(d: Day) -> u64
+    ensures { λ r. ⌜ r ≡ marks-number d ⌝ }
+{
+    let home = one_if(d.home);
+    let zone = one_if(d.zone);
+    let elsewhere = one_if(d.elsewhere);
+    home + 2 * zone + 4 * elsewhere
+}
+
+// The newest day's numbers.
+fn write_newest(log: &mut [u64; 1599], d: Day)
+    requires { ⌜ length (now log) ≡ 1599 ⌝ }
+    ensures { λ _. ⌜ now (log .exit) ≡ numbers-of d ++ drop 13 (now (log .entry)) ⌝ }
+{
+    let h = d.athome;
+    let z = d.inzone;
+    let e = d.outside;
+    log[0] = marks_of(d);
+    log[1] = h.kb;
+    log[2] = h.outgoing;
+    log[3] = h.incoming;
+    log[4] = h.sms;
+    log[5] = z.kb;
+    log[6] = z.outgoing;
+    log[7] = z.incoming;
+    log[8] = z.sms;
+    log[9] = e.kb;
+    log[10] = e.outgoing;
+    log[11] = e.incoming;
+    log[12] = e.sms;
+}
+
+// The log with one day more.
+pub fn push(log: &mut [u64; 1599], d: Day)
+    requires { ⌜ length (now log) ≡ 1599 ⌝ }
+    ensures { λ _. ⌜ now (log .exit) ≡ logged-with d (now (log .entry)) ⌝ }
+{
+    shift_days(log);
+    write_newest(log, d);
+}
+
+// The sums with one day more.
+fn add_day(s: Sums, d: Day) -> Sums
+    requires { ⌜ Small s × Low (day-units d) ⌝ }
+    ensures { λ r. ⌜ r ≡ sums-with s d ⌝ }
+{
+    let day = zone_bit(d);
+    let zonekb = zone_of(d, Service::DataService);
+    let otherkb = other_of(d, Service::DataService);
+    let zonecalls = zone_of(d, Service::CallService);
+    let othercalls = other_of(d, Service::CallService);
+    let zonesms = zone_of(d, Service::SmsService);
+    let othersms = other_of(d, Service::SmsService);
+    Sums {
+        days: day + s.days,
+        zonekb: zonekb + s.zonekb,
+        otherkb: otherkb + s.otherkb,
+        zonecalls: zonecalls + s.zonecalls,
+        othercalls: othercalls + s.othercalls,
+        zonesms: zonesms + s.zonesms,
+        othersms: othersms + s.othersms,
+    }
+}
+
+// The sums over the last w days: those of one day less, and the day before them.
+fn sums_last(log: &[u64; 1599], w: usize) -> Sums
+    requires { ⌜ (w ≤ 123) × Low (units-over w (days-of (now log))) ⌝ }
+    ensures { λ r. ⌜ r ≡ window-sums w (days-of (now (log .entry))) ⌝ }
 {
     if w == 0 {
-        return 0;
+        return Sums {
+            days: 0,
+            zonekb: 0,
+            otherkb: 0,
+            zonecalls: 0,
+            othercalls: 0,
+            zonesms: 0,
+            othersms: 0,
+        };
     }
     let last = w - 1;
-    column[last] + sum_last(column, last)
+    let d = day_at(log, last);
+    add_day(sums_last(log, last), d)
 }
 
 fn lesser(m: usize, n: usize) -> usize
@@ -318,66 +391,15 @@ fn lesser(m: usize, n: usize) -> usize
     if m < n { m } else { n }
 }
 
-// The sums of a window, from the columns.
-fn sums_over<'a>(
-    days: &'a [u64; 123],
-    zonekb: &'a [u64; 123],
-    otherkb: &'a [u64; 123],
-    zonecalls: &'a [u64; 123],
-    othercalls: &'a [u64; 123],
-    zonesms: &'a [u64; 123],
-    othersms: &'a [u64; 123],
-    w: usize,
-) -> Sums
-    requires { ⌜ (w ≤ 123) × Summable w (now days) × Summable w (now zonekb) × Summable w (now otherkb) × Summable w (now zonecalls) × Summable w (now othercalls) × Summable w (now zonesms) × Summable w (now othersms) ⌝ }
-    ensures { λ r. ⌜ r ≡ column-sums w (now (days .entry)) (now (zonekb .entry)) (now (otherkb .entry)) (now (zonecalls .entry)) (now (othercalls .entry)) (now (zonesms .entry)) (now (othersms .entry)) ⌝ }
-{
-    let a = sum_last(days, w);
-    let b = sum_last(zonekb, w);
-    let c = sum_last(otherkb, w);
-    let d = sum_last(zonecalls, w);
-    let e = sum_last(othercalls, w);
-    let f = sum_last(zonesms, w);
-    let g = sum_last(othersms, w);
-    Sums {
-        days: a,
-        zonekb: b,
-        otherkb: c,
-        zonecalls: d,
-        othercalls: e,
-        zonesms: f,
-        othersms: g,
-    }
-}
-
 // The sums of both windows, with n days logged.
-fn sum_windows(log: [Day; 123], n: usize) -> Windows
-    requires { ⌜ (n ≤ 123) × Low (units-over n log) ⌝ }
-    ensures { λ r. ⌜ r ≡ both-windows n log ⌝ }
+fn sum_windows(log: &[u64; 1599], n: usize) -> Windows
+    requires { ⌜ (n ≤ 123) × Low (units-over n (days-of (now log))) ⌝ }
+    ensures { λ r. ⌜ r ≡ both-windows n (days-of (now (log .entry))) ⌝ }
 {
-    let c = fill_columns(log, n);
     let l = lesser(123, n);
     let s = lesser(15, n);
-    let long = sums_over(
-        &c.days,
-        &c.zonekb,
-        &c.otherkb,
-        &c.zonecalls,
-        &c.othercalls,
-        &c.zonesms,
-        &c.othersms,
-        l,
-    );
-    let short = sums_over(
-        &c.days,
-        &c.zonekb,
-        &c.otherkb,
-        &c.zonecalls,
-        &c.othercalls,
-        &c.zonesms,
-        &c.othersms,
-        s,
-    );
+    let long = sums_last(log, l);
+    let short = sums_last(log, s);
     Windows {
         long: long,
         short: short,
@@ -455,9 +477,9 @@ fn state_after(v: Service, n: usize, w: Windows, state: ServiceState) -> Service
 }
 
 // The three states after a day change, with n days logged, the one just ended among them.
-pub fn services_next(s: Services, log: [Day; 123], n: usize) -> Services
-    requires { ⌜ (n ≤ 123) × AtMost (units-over n log) lifetime-most ⌝ }
-    ensures { λ r. ⌜ r ≡ services-after n log s ⌝ }
+pub fn services_next(s: Services, log: &[u64; 1599], n: usize) -> Services
+    requires { ⌜ (n ≤ 123) × AtMost (units-over n (days-of (now log))) lifetime-most ⌝ }
+    ensures { λ r. ⌜ r ≡ services-after n (days-of (now (log .entry))) s ⌝ }
 {
     let w = sum_windows(log, n);
     let internet = s.internet;
@@ -507,9 +529,9 @@ fn hold_day(sum: Units, d: Day) -> Units
 }
 
 // The units of the first n days, whatever they hold.
-fn tally(log: [Day; 123], n: usize) -> Units
+fn tally(log: &[u64; 1599], n: usize) -> Units
     requires { ⌜ n ≤ 123 ⌝ }
-    ensures { λ r. ⌜ r ≡ held (units-over n log) ⌝ }
+    ensures { λ r. ⌜ r ≡ held (units-over n (days-of (now (log .entry)))) ⌝ }
 {
     let mut sum = Units {
         kb: 0,
@@ -519,7 +541,7 @@ fn tally(log: [Day; 123], n: usize) -> Units
     };
     let mut i: usize = 0;
     while i < n {
-        sum = hold_day(sum, log[i]);
+        sum = hold_day(sum, day_at(log, i));
         i += 1;
     }
     sum
@@ -535,13 +557,13 @@ fn is_blank(d: Day) -> bool
 }
 
 // Are the places past the first n blank?
-fn rest_blank(log: [Day; 123], n: usize) -> bool
+fn rest_blank(log: &[u64; 1599], n: usize) -> bool
     requires { ⌜ n ≤ 123 ⌝ }
-    ensures { λ r. ⌜ r ≡ all-blank (drop n log) ⌝ }
+    ensures { λ r. ⌜ r ≡ all-blank (drop n (days-of (now (log .entry)))) ⌝ }
 {
     let mut i = n;
     while i < 123 {
-        if !is_blank(log[i]) {
+        if !is_blank(day_at(log, i)) {
             return false;
         }
         i += 1;
@@ -550,9 +572,9 @@ fn rest_blank(log: [Day; 123], n: usize) -> bool
 }
 
 // Are the units of today and of the n logged days within the lifetime units, and the other places blank?
-pub fn log_fits(log: [Day; 123], today: Day, n: u64, lifetime: Units) -> bool
+pub fn log_fits(log: &[u64; 1599], today: Day, n: u64, lifetime: Units) -> bool
     requires { ⌜ (n ≤ 123) × AtMost lifetime lifetime-most ⌝ }
-    ensures { λ r. ⌜ r ≡ log-within log today n lifetime ⌝ }
+    ensures { λ r. ⌜ r ≡ log-within (days-of (now (log .entry))) today n lifetime ⌝ }
 {
     let k = n as usize;
     let sum = hold_day(tally(log, k), today);

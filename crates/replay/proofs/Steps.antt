@@ -1,5 +1,5 @@
 -- What one call answers, and coded calls one after the other. Assumes nothing.
-use Prim.Native.Nat.{ℕ, suc, _+_, _≤_, _<_, min}
+use Prim.Native.Nat.{ℕ, _+_, _≤_, _<_, min}
 use lib.Dec.{leb}
 use borrow.Author.Tests.{leb-true, leb-false}
 use mathlib.Core.Path.{_≡_, refl, sym, _∙_, ap}
@@ -22,15 +22,18 @@ use Rattle.account.specs.declared.Account.{Account}
 use Rattle.account.specs.declared.Call.{Call}
 use Rattle.account.specs.declared.Call.the-variants.{Register, Use, TopUp, NextDay, Afford}
 use Rattle.account.specs.Calls.{verdict, accepts, step}
-use Rattle.account.specs.Answers.{use-result, answer-of, afford-of, afford-answer, afford-result}
+use Rattle.account.specs.Answers.{use-result, answer-of, afford-of, afford-answer, afford-result, answered-state, used-state}
+use Rattle.account.proofs.Returns.{step-size}
+use Rattle.account.proofs.Affords.{afford-keeps}
 use Rattle.ledger.specs.Lists.{run}
-use Rattle.replay.specs.declared.Answer.{Answer}
-use Rattle.replay.specs.declared.Answer.the-variants.{Done, Charged, UpTo, Declined}
+use Rattle.replay.specs.declared.Answer.the-variants.{Done, Charged, UpTo}
 use Rattle.replay.specs.declared.Applied.{Applied}
+use Rattle.replay.specs.declared.StateApplied.{StateApplied}
+use Rattle.replay.specs.declared.Progress.{Progress}
 use Rattle.replay.specs.declared.Coded.{Coded}
 use Rattle.replay.specs.declared.Coded.the-variants.{Known, Unknown}
 use Rattle.replay.specs.declared.Replayed.{Replayed}
-use Rattle.replay.specs.Replay.{accepted-answer, answer-by, applied, from-use, from-afford, count-refused, coded, calls-of, known, refusals, replay-of, replay-step}
+use Rattle.replay.specs.Replay.{accepted-answer, answer-by, applied, applied-state, applied-plainly, applied-use, applied-afford, from-use, from-afford, count-refused, coded, calls-of, known, refusals, replay-of, replay-step, progress-of, replayed-of}
 
 -- the answers of the calls, as those of one call of any kind
 from-use-is : (v : Verdict) (c : Charge) → from-use (use-answer v c) ≡ answer-by v (Charged c)
@@ -42,17 +45,17 @@ from-afford-is Accepted n = refl
 from-afford-is (Refused r) n = refl
 
 module _ (a : Account) where
-  pub plain-applied : (c : Call) → accepted-answer a c ≡ Done → _≡_ {A = Applied} (record { answer = answer-by (answer-of a c .answer) Done; account = answer-of a c .account }) (applied a c)
+  pub plain-applied : (c : Call) → accepted-answer a c ≡ Done → applied-plainly (answered-state (answer-of a c)) ≡ applied-state (applied a c)
   unfolding answer-of applied
   plain-applied c e = rw e refl
 
-  pub use-applied : (k : Kind) (n : ℕ) → _≡_ {A = Applied} (record { answer = from-use (use-result a k n .answer); account = use-result a k n .account }) (applied a (Use k n))
+  pub use-applied : (k : Kind) (n : ℕ) → applied-use (used-state (use-result a k n)) ≡ applied-state (applied a (Use k n))
   unfolding use-result applied accepted-answer
-  use-applied k n = λ i. record { answer = from-use-is (verdict a (Use k n)) (charge-of (a .state) k (only k n)) i; account = step a (Use k n) }
+  use-applied k n = λ i. record { answer = from-use-is (verdict a (Use k n)) (charge-of (a .state) k (only k n)) i; state = step a (Use k n) .state }
 
-  pub afford-applied : (k : Kind) → _≡_ {A = Applied} (record { answer = from-afford (afford-result a k .answer); account = afford-result a k .account }) (applied a (Afford k))
+  pub afford-applied : (k : Kind) → applied-afford (a .state) (afford-result a k .answer) ≡ applied-state (applied a (Afford k))
   unfolding afford-result applied accepted-answer
-  afford-applied k = λ i. record { answer = from-afford-is (verdict a (Afford k)) (afford-of a k) i; account = step a (Afford k) }
+  afford-applied k = λ i. record { answer = from-afford-is (verdict a (Afford k)) (afford-of a k) i; state = sym (afford-keeps a k) i .state }
 
   -- a refusal is counted
   never-refused : (c : Call) → count-refused (accepted-answer a c) ≡ 0
@@ -120,17 +123,29 @@ unfolding replay-step
 step-bounded t (Known c) = omega (arith, one-more (accepts (t .account) c))
 step-bounded t Unknown = omega arith
 
-applied-account : (a : Account) (c : Call) → applied a c .account ≡ step a c
-unfolding applied
-applied-account a c = refl
+-- one more call, where all but the log and the log are held apart
+module _ (t : Replayed) (c : Call) (r : StateApplied) (n : ℕ) (e : r ≡ applied-state (applied (t .account) c)) (f : n ≡ count-refused (r .answer)) where
+  pub replay-known : _≡_ {A = Progress} (record { state = r .state; refused = t .refused + n }) (progress-of (replay-step t (Known c)))
+  unfolding replay-step applied
+  replay-known =
+      let g : n ≡ cond (accepts (t .account) c) 0 1 = f ∙ ap (λ (x : StateApplied). count-refused (x .answer)) e ∙ counted (t .account) c in
+      let h : r .state ≡ step (t .account) c .state = ap (λ (x : StateApplied). x .state) e in
+      λ i. record { state = h i; refused = t .refused + g i }
 
-pub replay-known : (t : Replayed) (c : Call) (r : Applied) (n : ℕ) → r ≡ applied (t .account) c → n ≡ count-refused (r .answer)
-    → _≡_ {A = Replayed} (record { account = r .account; refused = t .refused + n }) (replay-step t (Known c))
+-- a run from its parts
+pub replayed-is : (t : Replayed) (r : Progress) (l : List ℕ) → r ≡ progress-of t → l ≡ t .account .log → replayed-of r l ≡ t
+replayed-is t r l e f = λ i. record { account = record { state = e i .state; log = f i }; refused = e i .refused }
+
+pub joined-applied : (a : Account) (c : Call) (l : List ℕ) → l ≡ step a c .log
+    → _≡_ {A = Applied} (record { answer = applied a c .answer; account = record { state = applied a c .account .state; log = l } }) (applied a c)
+unfolding applied
+joined-applied a c l e = λ i. record { answer = applied a c .answer; account = record { state = step a c .state; log = e i } }
+
+-- the log keeps its size
+pub replay-size : (t : Replayed) (x : Coded) → length (t .account .log) ≡ 1599 → length (replay-step t x .account .log) ≡ 1599
 unfolding replay-step
-replay-known t c r n e f =
-    let g : n ≡ cond (accepts (t .account) c) 0 1 = f ∙ ap (λ (x : Applied). count-refused (x .answer)) e ∙ counted (t .account) c in
-    let h : r .account ≡ step (t .account) c = ap (λ (x : Applied). x .account) e ∙ applied-account (t .account) c in
-    λ i. record { account = h i; refused = t .refused + g i }
+replay-size t (Known c) h = step-size (t .account) c h
+replay-size t Unknown h = h
 
 pub calls-none : (cs ns : List ℕ) (i : ℕ) → min (length cs) (length ns) ≤ i → calls-of (drop i cs) (drop i ns) ≡ []
 calls-none cs ns i h = go (leb (length cs) i) refl

@@ -14,19 +14,21 @@ use Rattle.account.specs.declared.Call.{Call}
 use Rattle.account.specs.declared.Call.the-variants.{Register, Use, TopUp, NextDay, Afford}
 use Rattle.account.specs.Calls.{verdict, accepts, step}
 use Rattle.account.specs.declared.AffordAnswer.{AffordAnswer}
-use Rattle.account.specs.declared.Afforded.{Afforded}
-use Rattle.account.specs.declared.Answered.{Answered}
-use Rattle.account.specs.declared.Used.{Used}
+use Rattle.account.specs.declared.StateAnswered.{StateAnswered}
 use Rattle.account.specs.declared.AffordAnswer.the-variants as Ask
+use Rattle.metering.specs.declared.State.{State}
+use Rattle.metering.specs.declared.StateUsed.{StateUsed}
 use Rattle.metering.specs.declared.UseAnswer.{UseAnswer}
 use Rattle.metering.specs.declared.UseAnswer.the-variants as Take
-use Rattle.account.specs.Answers.{afford-of}
+use Rattle.account.specs.Answers.{afford-of, account-of}
 use Rattle.replay.specs.declared.Answer.{Answer}
 use Rattle.replay.specs.declared.Answer.the-variants.{Done, Charged, UpTo, Declined}
 use Rattle.replay.specs.declared.Applied.{Applied}
+use Rattle.replay.specs.declared.StateApplied.{StateApplied}
 use Rattle.replay.specs.declared.Coded.{Coded}
 use Rattle.replay.specs.declared.Coded.the-variants.{Known, Unknown}
 use Rattle.replay.specs.declared.Replayed.{Replayed}
+use Rattle.replay.specs.declared.Progress.{Progress}
 use Rattle.ledger.specs.Lists.{run}
 
 -- what an accepted call answers: a use its charge, Afford its number
@@ -54,15 +56,18 @@ abbrev pub from-afford : AffordAnswer → Answer
 from-afford (Ask.UpTo n) = UpTo n
 from-afford (Ask.Withheld n) = Declined n
 
--- the same with the account
-abbrev pub applied-plainly : Answered → Applied
-applied-plainly r = record { answer = answer-by (r .answer) Done; account = r .account }
+-- the same with all of the account but its log
+abbrev pub applied-plainly : StateAnswered → StateApplied
+applied-plainly r = record { answer = answer-by (r .answer) Done; state = r .state }
 
-abbrev pub applied-use : Used → Applied
-applied-use r = record { answer = from-use (r .answer); account = r .account }
+abbrev pub applied-use : StateUsed → StateApplied
+applied-use r = record { answer = from-use (r .answer); state = r .state }
 
-abbrev pub applied-afford : Afforded → Applied
-applied-afford r = record { answer = from-afford (r .answer); account = r .account }
+abbrev pub applied-afford : State → AffordAnswer → StateApplied
+applied-afford s x = record { answer = from-afford x; state = s }
+
+abbrev pub applied-state : Applied → StateApplied
+applied-state x = record { answer = x .answer; state = x .account .state }
 
 abbrev pub count-refused : Answer → ℕ
 count-refused Done = 0
@@ -112,3 +117,10 @@ replay-of a cs ns = record { account = run a (known (calls-of cs ns)); refused =
 unfoldable pub replay-step : Replayed → Coded → Replayed
 replay-step t (Known c) = record { account = step (t .account) c; refused = t .refused + cond (accepts (t .account) c) 0 1 }
 replay-step t Unknown = record { account = t .account; refused = t .refused + 1 }
+
+-- for the code's loop, which holds the log apart
+abbrev pub replayed-of : Progress → List ℕ → Replayed
+replayed-of t l = record { account = account-of (t .state) l; refused = t .refused }
+
+abbrev pub progress-of : Replayed → Progress
+progress-of t = record { state = t .account .state; refused = t .refused }

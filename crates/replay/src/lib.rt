@@ -1,11 +1,11 @@
 // One call of any kind, and calls as the trip file codes them, run one after the other. Document 01, "Lists of calls and the book".
 use account::Account;
 use account::AffordAnswer;
-use account::Afforded;
-use account::Answered;
 use account::Call;
-use account::Used;
+use account::StateAnswered;
 use metering::Charge;
+use metering::State;
+use metering::StateUsed;
 use metering::UseAnswer;
 use tariff::Kind;
 use tariff::Place;
@@ -15,7 +15,9 @@ ghost use mathlib.Core.Bool.{Bool, true, false};
 ghost use Prim.Native.Nat.{ℕ, _+_, _≤_, _<_, min};
 ghost use lib.ListN.{length};
 ghost use Rattle.metering.specs.Reasons.{use-answer};
-ghost use Rattle.replay.specs.Replay.{applied, applied-plainly, applied-use, applied-afford, answer-by, from-use, from-afford, count-refused, register-code, other-code, coded, replay-step, replay-of};
+ghost use Rattle.account.specs.Calls.{step};
+ghost use Rattle.account.specs.Answers.{account-of};
+ghost use Rattle.replay.specs.Replay.{applied, applied-state, applied-plainly, applied-use, applied-afford, answer-by, from-use, from-afford, count-refused, register-code, other-code, coded, replay-step, replay-of, replayed-of, progress-of};
 
 // What a call answers.
 pub enum Answer {
@@ -30,6 +32,12 @@ pub struct Applied {
     pub account: Account,
 }
 
+// What a call answers, with all of the account but its log.
+pub struct StateApplied {
+    pub answer: Answer,
+    pub state: State,
+}
+
 // What a code and a number stand for.
 pub enum Coded {
     Known(Call),
@@ -39,6 +47,12 @@ pub enum Coded {
 // An account after some calls, and how many of them were refused.
 pub struct Replayed {
     pub account: Account,
+    pub refused: usize,
+}
+
+// The same, of the account all but its log.
+pub struct Progress {
+    pub state: State,
     pub refused: usize,
 }
 
@@ -69,49 +83,64 @@ fn afford_answer(u: AffordAnswer) -> Answer
     }
 }
 
-fn plain_applied(r: Answered) -> Applied
+fn plain_applied(r: StateAnswered) -> StateApplied
     ensures { λ x. ⌜ x ≡ applied-plainly r ⌝ }
 {
     let v = r.answer;
-    let next = r.account;
-    Applied {
+    let next = r.state;
+    StateApplied {
         answer: plain_answer(v),
-        account: next,
+        state: next,
     }
 }
 
-fn use_applied(r: Used) -> Applied
+fn use_applied(r: StateUsed) -> StateApplied
     ensures { λ x. ⌜ x ≡ applied-use r ⌝ }
 {
     let u = r.answer;
-    let next = r.account;
-    Applied {
+    let next = r.state;
+    StateApplied {
         answer: use_answer(u),
-        account: next,
+        state: next,
     }
 }
 
-fn afford_applied(r: Afforded) -> Applied
-    ensures { λ x. ⌜ x ≡ applied-afford r ⌝ }
+fn afford_applied(state: State, u: AffordAnswer) -> StateApplied
+    ensures { λ x. ⌜ x ≡ applied-afford state u ⌝ }
 {
-    let u = r.answer;
-    let next = r.account;
-    Applied {
+    StateApplied {
         answer: afford_answer(u),
-        account: next,
+        state: state,
+    }
+}
+
+// One call on all of an account but its log, which is lent: its answer, and all but the log.
+pub fn call_with(state: State, log: &mut [u64; 1599], c: Call) -> StateApplied
+    requires { ⌜ length (now log) ≡ 1599 ⌝ }
+    ensures answer { λ r. ⌜ r ≡ applied-state (applied (account-of state (now (log .entry))) c) ⌝ }
+    ensures shifted { λ _. ⌜ now (log .exit) ≡ step (account-of state (now (log .entry))) c .log ⌝ }
+{
+    match c {
+        Call::Register(p) => plain_applied(account::register_with(state, log, p)),
+        Call::Use(k, n) => use_applied(account::use_with(state, log, k, n)),
+        Call::TopUp(n) => plain_applied(account::top_up_with(state, log, n)),
+        Call::NextDay => plain_applied(account::next_day_with(state, log)),
+        Call::Afford(k) => afford_applied(state, account::afford_with(state, log, k)),
     }
 }
 
 // One call on an account: its answer, and the account.
-pub fn apply(a: Account, c: Call) -> Applied
+pub fn apply(mut a: Account, c: Call) -> Applied
     ensures { λ r. ⌜ r ≡ applied a c ⌝ }
 {
-    match c {
-        Call::Register(p) => plain_applied(a.register(p)),
-        Call::Use(k, n) => use_applied(a.use_units(k, n)),
-        Call::TopUp(n) => plain_applied(a.top_up(n)),
-        Call::NextDay => plain_applied(a.next_day()),
-        Call::Afford(k) => afford_applied(a.afford(k)),
+    let state = a.state;
+    let done = call_with(state, &mut a.log, c);
+    let answer = done.answer;
+    let next = done.state;
+    a.state = next;
+    Applied {
+        answer: answer,
+        account: a,
     }
 }
 
@@ -192,30 +221,28 @@ fn one_if_refused(x: Answer) -> usize
     }
 }
 
-// One more coded call.
-pub fn replay_one(t: Replayed, x: Coded) -> Replayed
-    requires { ⌜ t .refused < 18446744073709551615 ⌝ }
-    ensures { λ r. ⌜ r ≡ replay-step t x ⌝ }
+// One more coded call, with the log lent.
+pub fn replay_with(t: Progress, log: &mut [u64; 1599], x: Coded) -> Progress
+    requires { ⌜ (length (now log) ≡ 1599) × (t .refused < 18446744073709551615) ⌝ }
+    ensures progress { λ r. ⌜ r ≡ progress-of (replay-step (replayed-of t (now (log .entry))) x) ⌝ }
+    ensures shifted { λ _. ⌜ now (log .exit) ≡ replay-step (replayed-of t (now (log .entry))) x .account .log ⌝ }
 {
+    let state = t.state;
     match x {
         Coded::Known(c) => {
-            let a = t.account;
-            let r = apply(a, c);
+            let r = call_with(state, log, c);
             let x = r.answer;
-            let next = r.account;
+            let next = r.state;
             let n = one_if_refused(x);
-            Replayed {
-                account: next,
+            Progress {
+                state: next,
                 refused: t.refused + n,
             }
         }
-        Coded::Unknown => {
-            let a = t.account;
-            Replayed {
-                account: a,
-                refused: t.refused + 1,
-            }
-        }
+        Coded::Unknown => Progress {
+            state: state,
+            refused: t.refused + 1,
+        },
     }
 }
 
@@ -229,15 +256,25 @@ fn lesser(m: usize, n: usize) -> usize
 pub fn replay(a: Account, codes: &[u32], numbers: &[u32]) -> Replayed
     ensures { λ r. ⌜ r ≡ replay-of a (now (codes .entry)) (now (numbers .entry)) ⌝ }
 {
-    let mut t = Replayed {
-        account: a,
+    let state = a.state;
+    let mut log = a.log;
+    let mut t = Progress {
+        state: state,
         refused: 0,
     };
     let n = lesser(codes.len(), numbers.len());
     let mut i: usize = 0;
     while i < n {
-        t = replay_one(t, decode(codes[i], numbers[i]));
+        t = replay_with(t, &mut log, decode(codes[i], numbers[i]));
         i += 1;
     }
-    t
+    let last = t.state;
+    let account = Account {
+        state: last,
+        log: log,
+    };
+    Replayed {
+        account: account,
+        refused: t.refused,
+    }
 }

@@ -1,5 +1,5 @@
 -- The calls of a section, one after the other, are the file's calls replayed. Assumes nothing.
-use Prim.Native.Nat.{ℕ, zero, suc, _+_, _*_, _/_, _≤_, _<_}
+use Prim.Native.Nat.{ℕ, zero, suc, _+_, _*_, _/_, _≤_}
 use mathlib.Core.Path.{_≡_, refl, sym, _∙_, ap}
 use mathlib.Core.List.{List, [], _∷_, _++_}
 use native.Mathlib.Numerals.{add-one}
@@ -12,7 +12,7 @@ use Rattle.replay.specs.declared.Replayed.{Replayed}
 use Rattle.replay.specs.declared.Coded.{Coded}
 use Rattle.replay.specs.Replay as R
 use Rattle.replay.specs.Replay.{coded, replay-of, replay-step}
-use Rattle.replay.proofs.Steps.{replay-list, replay-is, step-bounded, list-step, list-end}
+use Rattle.replay.proofs.Steps.{replay-list, replay-is, step-bounded, list-step, list-end, replay-size}
 use Rattle.reader.specs.declared.Step.{Step}
 use Rattle.reader.specs.declared.Step.the-variants.{Call, End}
 use Rattle.reader.specs.Calls.{decoded}
@@ -76,6 +76,11 @@ pub run-bounded : (a : Account) (s : List ℕ) (n : ℕ) → run-first a s n .re
 unfolding run-first
 run-bounded a s zero = omega arith
 run-bounded a s (suc n) = omega (arith, run-bounded a s n, step-bounded (run-first a s n) (coded (word s (2 * n)) (word s (2 * n + 1))))
+
+-- the log keeps its size
+pub taken-size : (t : Replayed) (s : Step) → length (t .account .log) ≡ 1599 → length (taken t s .account .log) ≡ 1599
+taken-size t (Call c n) h = replay-size t (coded c n) h
+taken-size t End h = h
 
 pub section-long : (f : List ℕ) (p : Plan) (n : ℕ) → read-of f ≡ Trip p n → 8 * n ≤ length (section-of f 2)
 section-long f p n e = let h = holds f p n e in omega (arith, h .long)

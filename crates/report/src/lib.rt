@@ -1,12 +1,14 @@
 // The figures that the program `statement` prints, from the bytes of a trip file. Document 01, "Figures".
 use account::Account;
 use reader::Step;
+use replay::Progress;
 use replay::Replayed;
 use tariff::Allowance;
 use tripfile::Read;
 ghost use mathlib.Core.Path.{_≡_};
 ghost use Prim.Native.Nat.{ℕ, _+_, _*_, _≤_, _<_};
 ghost use lib.ListN.{length};
+ghost use Rattle.replay.specs.Replay.{replayed-of, progress-of};
 ghost use Rattle.report.specs.Statement.{figures-of, report-of, run-first, taken};
 
 // The nine figures.
@@ -28,15 +30,16 @@ pub enum Report {
     Refused(u64),
 }
 
-// One call as the reader hands it out.
-fn take_call(t: Replayed, s: Step) -> Replayed
-    requires { ⌜ t .refused < 18446744073709551615 ⌝ }
-    ensures { λ r. ⌜ r ≡ taken t s ⌝ }
+// One call as the reader hands it out, with the log lent.
+fn take_call(t: Progress, log: &mut [u64; 1599], s: Step) -> Progress
+    requires { ⌜ (length (now log) ≡ 1599) × (t .refused < 18446744073709551615) ⌝ }
+    ensures progress { λ r. ⌜ r ≡ progress-of (taken (replayed-of t (now (log .entry))) s) ⌝ }
+    ensures shifted { λ _. ⌜ now (log .exit) ≡ taken (replayed-of t (now (log .entry))) s .account .log ⌝ }
 {
     match s {
         Step::Call { code, number } => {
             let x = replay::decode(code, number);
-            replay::replay_one(t, x)
+            replay::replay_with(t, log, x)
         }
         Step::End => t,
     }
@@ -47,17 +50,27 @@ pub fn run_section(section: &[u8], n: usize, a: Account) -> Replayed
     requires { ⌜ (8 * n ≤ length (now section)) × (n ≤ 8184) ⌝ }
     ensures { λ r. ⌜ r ≡ run-first a (now (section .entry)) n ⌝ }
 {
-    let mut t = Replayed {
-        account: a,
+    let state = a.state;
+    let mut log = a.log;
+    let mut t = Progress {
+        state: state,
         refused: 0,
     };
     let mut i: usize = 0;
     while i < n {
         let s = reader::call_at(section, 8 * i);
-        t = take_call(t, s);
+        t = take_call(t, &mut log, s);
         i += 1;
     }
-    t
+    let last = t.state;
+    let account = Account {
+        state: last,
+        log: log,
+    };
+    Replayed {
+        account: account,
+        refused: t.refused,
+    }
 }
 
 fn show_figures(t: Replayed) -> Figures

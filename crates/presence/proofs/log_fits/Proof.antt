@@ -5,7 +5,7 @@ use Rattle.tariff.specs.Units.{_⊕_, fits}
 use Rattle.presence.proofs.Ceiling.{held-twice, held-low, fits-held}
 use Rattle.presence.specs.Held.{held}
 use Rattle.presence.specs.Day.{day-units}
-use Rattle.presence.specs.Log.{units-over, log-within}
+use Rattle.presence.specs.Log.{days-of, units-over, log-within}
 use mathlib.Core.Path.{_≡_, _∙_, ap}
 use borrow.Author.Needs.{needs}
 use Rattle.presence.proofs.log_fits.Statement.{statement}
@@ -27,10 +27,10 @@ returns : tie.Need-returns
 unfolding log-within all
 returns c = let d = c .before .before .before .before in
     let a = d .args in
-    let s = day-units (a .today) ⊕ units-over (a .n) (a .log) in
+    let s = day-units (a .today) ⊕ units-over (a .n) (days-of (a .log .now)) in
     let h : c .before .before .hold-day .result ≡ held s =
     c .before .before .hold-day .ensures ∙ ap (λ (t : Units). held (day-units (a .today) ⊕ t)) (c .before .before .before .tally .ensures)
-    ∙ held-twice (day-units (a .today)) (units-over (a .n) (a .log)) in
+    ∙ held-twice (day-units (a .today)) (units-over (a .n) (days-of (a .log .now))) in
     let e : c .units-fit .result ≡ fits s (a .lifetime) =
     c .units-fit .ensures ∙ ap (λ (t : Units). fits t (a .lifetime)) h ∙ fits-held s (a .lifetime) (d .pre .1) in
     simp (e, c .before .rest-blank .ensures)

@@ -1,4 +1,5 @@
 -- `presence::services_next` meets its contract. Assumes nothing.
+use Rattle.presence.specs.Log.{days-of}
 use mathlib.Core.Path.{_≡_, _∙_}
 use Rattle.presence.specs.declared.Service.the-variants.{DataService, CallService, SmsService}
 use Rattle.presence.specs.Service.{next-state, services-after}
@@ -23,12 +24,12 @@ returns : tie.Need-returns
 unfolding services-after
 returns c = let a = c .before .before .before .before .args in
     let w = c .before .before .before .sum-windows .ensures in
-    let i : c .before .before .state-after .result ≡ next-state DataService (a .n) (a .log) (a .s .internet) =
-    c .before .before .state-after .ensures ∙ rw w (step-is DataService (a .n) (a .log) (a .s .internet)) in
-    let k : c .before .state-after2 .result ≡ next-state CallService (a .n) (a .log) (a .s .calls) =
-    c .before .state-after2 .ensures ∙ rw w (step-is CallService (a .n) (a .log) (a .s .calls)) in
-    let m : c .state-after3 .result ≡ next-state SmsService (a .n) (a .log) (a .s .messages) =
-    c .state-after3 .ensures ∙ rw w (step-is SmsService (a .n) (a .log) (a .s .messages)) in
+    let i : c .before .before .state-after .result ≡ next-state DataService (a .n) (days-of (a .log .now)) (a .s .internet) =
+    c .before .before .state-after .ensures ∙ rw w (step-is DataService (a .n) (days-of (a .log .now)) (a .s .internet)) in
+    let k : c .before .state-after2 .result ≡ next-state CallService (a .n) (days-of (a .log .now)) (a .s .calls) =
+    c .before .state-after2 .ensures ∙ rw w (step-is CallService (a .n) (days-of (a .log .now)) (a .s .calls)) in
+    let m : c .state-after3 .result ≡ next-state SmsService (a .n) (days-of (a .log .now)) (a .s .messages) =
+    c .state-after3 .ensures ∙ rw w (step-is SmsService (a .n) (days-of (a .log .now)) (a .s .messages)) in
     simp (i, k, m)
 
 pub services-next-spec : {M : Type 1} → statement M

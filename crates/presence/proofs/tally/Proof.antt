@@ -3,7 +3,7 @@ use Rattle.presence.proofs.Logs.{over-next, over-none}
 use Rattle.presence.proofs.Ceiling.{held-twice, held-low}
 use Rattle.presence.specs.Held.{held}
 use lib.ListN.{getD}
-use Rattle.presence.specs.Log.{units-over}
+use Rattle.presence.specs.Log.{days-of, units-over}
 use Rattle.presence.specs.Day.{empty-day, day-units}
 use Prim.Native.Nat.{_≤_, _-_}
 use mathlib.Core.Path.{_≡_, refl, sym, _∙_, ap}
@@ -12,19 +12,16 @@ use Rattle.presence.proofs.tally.Statement.{statement}
 use Rattle.presence.proofs.tally.Tie as tie
 
 abbrev Inv-loop : tie.InvT-loop
-Inv-loop n log sum₀ i₀ sum i = (i ≤ n) × (n ≤ 123) × (sum ≡ held (units-over i log))
+Inv-loop log n sum₀ i₀ sum i = (i ≤ n) × (n ≤ 123) × (sum ≡ held (units-over i (days-of log)))
 
 abbrev μ-loop : tie.MeasureT-loop
-μ-loop n log sum₀ i₀ sum i = n - i
+μ-loop log n sum₀ i₀ sum i = n - i
 
 loop-holds : tie.Need-loop-holds Inv-loop μ-loop
-loop-holds c = (omega arith, omega arith, sym (ap held (over-none 0 (c .args .t1) refl)))
+loop-holds c = (omega arith, omega arith, sym (ap held (over-none 0 (days-of (c .args .log .now)) refl)))
 
-mul-hold-day : tie.Need-mul-hold-day Inv-loop μ-loop
-mul-hold-day c = omega arith
-
-array-copy-out-hold-day : tie.Need-array-copy-out-hold-day Inv-loop μ-loop
-array-copy-out-hold-day c = omega arith
+day-at-requires : tie.Need-day-at-requires Inv-loop μ-loop
+day-at-requires c κs = omega arith
 
 hold-day-requires : tie.Need-hold-day-requires Inv-loop μ-loop
 hold-day-requires c κs = rw (c .before .before .loop .inv .2) (held-low _)
@@ -37,7 +34,8 @@ loop-less c = omega arith
 
 loop-again : tie.Need-loop-again Inv-loop μ-loop
 loop-again c = let b = c .before .before .before in
-    (omega arith, omega arith, c .hold-day .ensures ∙ rw (b .loop .inv .2) (held-twice (day-units (getD (b .before .args .t1) (b .loop .i) empty-day)) (units-over (b .loop .i) (b .before .args .t1))) ∙ sym (ap held (over-next (b .loop .i) (b .before .args .t1))))
+    let ds = days-of (b .before .args .log .now) in
+    (omega arith, omega arith, c .hold-day .ensures ∙ rw (b .loop .inv .2, c .before .day-at .ensures) (held-twice (day-units (getD ds (b .loop .i) empty-day)) (units-over (b .loop .i) ds)) ∙ sym (ap held (over-next (b .loop .i) ds)))
 
 returns : tie.Need-returns Inv-loop μ-loop
 returns c = let e : c .before .loop .i ≡ c .before .before .args .n = omega arith in
@@ -50,8 +48,7 @@ tally-spec =
     Inv-loop
     μ-loop
     loop-holds
-    mul-hold-day
-    array-copy-out-hold-day
+    day-at-requires
     hold-day-requires
     add-i
     loop-less

@@ -1,0 +1,107 @@
+-- The log as it is kept, 13 numbers to a day, and the days that they stand for. Assumes nothing.
+use Prim.Native.Nat.{ℕ, zero, suc, _+_, _-_, _*_, _/_, _%_, _≤_, _<_}
+use mathlib.Core.Path.{_≡_, refl, sym, _∙_, ap}
+use mathlib.Core.Bool.{Bool, true, false}
+use mathlib.Core.List.{List, [], _∷_, _++_}
+use native.Mathlib.Omega.{arith}
+use lib.Dec.{eqb, lit≤}
+use lib.ListN.{getD, drop, take, length, replicate}
+use lib.Seq.{getD-take, getD-drop, drop-drop, take-nil, length-take-le}
+use Rattle.tariff.specs.Units.{each}
+use Rattle.presence.specs.declared.Day.{Day}
+use Rattle.presence.specs.Day.{empty-day, joined}
+use Rattle.presence.specs.Log.{numbers-of, day-from, days-first, days-of, logged-with}
+
+-- a day's numbers stand for the day
+pub day-back : (d : Day) (xs : List ℕ) → day-from (numbers-of d ++ xs) ≡ d
+unfolding day-from numbers-of
+day-back d xs = go (d .home) (d .zone) (d .elsewhere) refl refl refl
+  where
+    go : (h z e : Bool) → d .home ≡ h → d .zone ≡ z → d .elsewhere ≡ e → day-from (numbers-of d ++ xs) ≡ d
+    go true true true p q r = rw (p, q, r) refl
+    go true true false p q r = rw (p, q, r) refl
+    go true false true p q r = rw (p, q, r) refl
+    go true false false p q r = rw (p, q, r) refl
+    go false true true p q r = rw (p, q, r) refl
+    go false true false p q r = rw (p, q, r) refl
+    go false false true p q r = rw (p, q, r) refl
+    go false false false p q r = rw (p, q, r) refl
+
+count-days : (n : ℕ) (xs : List ℕ) → length (days-first n xs) ≡ n
+unfolding days-first
+count-days zero xs = refl
+count-days (suc n) xs = ap suc (count-days n (drop 13 xs))
+
+pub all-days : (xs : List ℕ) → length (days-of xs) ≡ 123
+unfolding days-of
+all-days xs = count-days 123 xs
+
+day-in : (n i : ℕ) (xs : List ℕ) → i < n → getD (days-first n xs) i empty-day ≡ day-from (drop (13 * i) xs)
+unfolding days-first
+day-in zero i xs h = absurd (omega arith)
+day-in (suc n) zero xs h = refl
+day-in (suc n) (suc i) xs h =
+    let e : 13 + 13 * i ≡ 13 * suc i = omega arith in
+    day-in n i (drop 13 xs) (omega arith) ∙ ap day-from (drop-drop (13 * i) 13 xs ∙ ap (λ (k : ℕ). drop k xs) e)
+
+-- days that stand before the cut are as they were
+from-take : (m : ℕ) (xs : List ℕ) → 13 ≤ m → day-from (take m xs) ≡ day-from xs
+unfolding day-from
+from-take m xs h =
+    rw
+    (getD-take m xs 0 0 (omega arith), getD-take m xs 1 0 (omega arith), getD-take m xs 2 0 (omega arith), getD-take m xs 3 0 (omega arith), getD-take m xs 4 0 (omega arith), getD-take m xs 5 0 (omega arith), getD-take m xs 6 0 (omega arith), getD-take m xs 7 0 (omega arith), getD-take m xs 8 0 (omega arith), getD-take m xs 9 0 (omega arith), getD-take m xs 10 0 (omega arith), getD-take m xs 11 0 (omega arith), getD-take m xs 12 0 (omega arith))
+    refl
+
+drop-take : (k m : ℕ) (xs : List ℕ) → drop k (take m xs) ≡ take (m - k) (drop k xs)
+drop-take zero m xs = let e : m ≡ m - 0 = omega arith in ap (λ (j : ℕ). take j xs) e
+drop-take (suc k) zero xs = let e : 0 - suc k ≡ 0 = omega arith in rw e refl
+drop-take (suc k) (suc m) [] = sym (take-nil (suc m - suc k))
+drop-take (suc k) (suc m) (x ∷ xs) =
+    let e : m - k ≡ suc m - suc k = omega arith in
+    drop-take k m xs ∙ ap (λ (j : ℕ). take j (drop k xs)) e
+
+days-take : (n m : ℕ) (xs : List ℕ) → 13 * n ≤ m → days-first n (take m xs) ≡ days-first n xs
+unfolding days-first
+days-take zero m xs h = refl
+days-take (suc n) m xs h = rw (from-take m xs (omega arith), drop-take 13 m xs, days-take n (m - 13) (drop 13 xs) (omega arith)) refl
+
+days-front : (n m : ℕ) (xs : List ℕ) → n ≤ m → take n (days-first m xs) ≡ days-first n xs
+unfolding days-first
+days-front zero m xs h = refl
+days-front (suc n) zero xs h = absurd (omega arith)
+days-front (suc n) (suc m) xs h = ap (λ (l : List Day). day-from xs ∷ l) (days-front n m (drop 13 xs) (omega arith))
+
+-- a day that joins the numbers joins the days
+pub days-joined : (d : Day) (xs : List ℕ) → days-of (logged-with d xs) ≡ joined d (days-of xs)
+unfolding days-of logged-with joined days-first numbers-of
+days-joined d xs =
+    days-take 123 1599 (numbers-of d ++ xs) (lit≤ tt)
+    ∙ rw (day-back d xs) (ap (λ (l : List Day). d ∷ l) (sym (days-front 122 123 xs (lit≤ tt))))
+
+pub days-empty : days-of (replicate 1599 0) ≡ replicate 123 empty-day
+unfolding days-of days-first day-from
+days-empty = refl
+
+at-place : (i k m : ℕ) (xs : List ℕ) → 13 * i + k ≡ m → getD (drop (13 * i) xs) k 0 ≡ getD xs m 0
+at-place i k m xs e = getD-drop (13 * i) xs k 0 ∙ ap (λ (j : ℕ). getD xs j 0) e
+
+-- what is read at day i's places is day i
+pub day-at-is : (i : ℕ) (xs : List ℕ) → i < 123 → getD (days-of xs) i empty-day ≡ record {
+  home = eqb (getD xs (13 * i) 0 % 2) 1;
+  zone = eqb (getD xs (13 * i) 0 / 2 % 2) 1;
+  elsewhere = eqb (getD xs (13 * i) 0 / 4 % 2) 1;
+  athome = each (getD xs (13 * i + 1) 0) (getD xs (13 * i + 1 + 1) 0) (getD xs (13 * i + 1 + 2) 0) (getD xs (13 * i + 1 + 3) 0);
+  inzone = each (getD xs (13 * i + 5) 0) (getD xs (13 * i + 5 + 1) 0) (getD xs (13 * i + 5 + 2) 0) (getD xs (13 * i + 5 + 3) 0);
+  outside = each (getD xs (13 * i + 9) 0) (getD xs (13 * i + 9 + 1) 0) (getD xs (13 * i + 9 + 2) 0) (getD xs (13 * i + 9 + 3) 0);
+}
+unfolding days-of day-from
+day-at-is i xs h =
+    day-in 123 i xs h
+    ∙ rw
+    (at-place i 0 (13 * i) xs (omega arith), at-place i 1 (13 * i + 1) xs refl, at-place i 2 (13 * i + 1 + 1) xs (omega arith), at-place i 3 (13 * i + 1 + 2) xs (omega arith), at-place i 4 (13 * i + 1 + 3) xs (omega arith), at-place i 5 (13 * i + 5) xs refl, at-place i 6 (13 * i + 5 + 1) xs (omega arith), at-place i 7 (13 * i + 5 + 2) xs (omega arith), at-place i 8 (13 * i + 5 + 3) xs (omega arith), at-place i 9 (13 * i + 9) xs refl, at-place i 10 (13 * i + 9 + 1) xs (omega arith), at-place i 11 (13 * i + 9 + 2) xs (omega arith), at-place i 12 (13 * i + 9 + 3) xs (omega arith))
+    refl
+
+-- the log keeps its size
+pub logged-size : (d : Day) (xs : List ℕ) → length xs ≡ 1599 → length (logged-with d xs) ≡ 1599
+unfolding logged-with numbers-of
+logged-size d xs h = length-take-le 1599 (numbers-of d ++ xs) (rw h (lit≤ tt))
