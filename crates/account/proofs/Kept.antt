@@ -32,7 +32,7 @@ use Rattle.presence.specs.Log.{days-of, lifetime-most}
 use Rattle.presence.specs.Service.{state-step, next-state, services-after}
 use Rattle.presence.proofs.Marks.{day-use-bounded, day-mark-bounded}
 use Rattle.presence.proofs.Logs.{over-joined, blank-joined, over-empty, blank-empty}
-use Rattle.presence.proofs.Numbers.{days-joined, days-empty}
+use Rattle.presence.proofs.Numbers.{days-joined, days-empty, marks-joined, marks-empty}
 use Rattle.metering.specs.Use.{billable, roaming, billed-after, newly-surcharged, basis-after, cost, spent}
 use Rattle.metering.specs.Moves.{opened-state, enters, registered, renews, topped, turns-month, next-state-of}
 use Rattle.metering.specs.Sound.{allowance-fits, warning-fits, figures-sound}
@@ -52,7 +52,7 @@ use Rattle.account.proofs.Parts.{Logged, log-passes, has-figures, has-c
 pub record Sound (a : Account) : Type 0 where
   pub figures : Figures (a .state)
   pub money : Balanced (a .state)
-  pub days : Logged (days-of (a .log)) (a .state .today) (a .state .logged) (a .state .lifetime)
+  pub days : Logged (a .log) (a .state .today) (a .state .logged) (a .state .lifetime)
 
 pub sound-tells : (a : Account) → sound a ≡ true → Sound a
 sound-tells a s = record { figures = figures-tell (a .state) (has-figures a s); money = charges-tell (a .state) (has-charges a s); days = has-log a s }
@@ -131,7 +131,7 @@ sound-register a q s =
         messages-ok = f .messages-ok;
       };
       money = record { worked = record { home-is = s .money .worked .home-is; extra-is = s .money .worked .extra-is }; balance = s .money .balance };
-      days = record { days-ok = omega (arith, s .days .days-ok, day-mark-bounded (At q) (a .state .today)); rest-ok = s .days .rest-ok };
+      days = record { days-ok = omega (arith, s .days .days-ok, day-mark-bounded (At q) (a .state .today)); rest-ok = s .days .rest-ok; marks-ok = s .days .marks-ok };
     }
 
 sound-top-up : (a : Account) (n : ℕ) → a .state .paid + n ≤ 1000000000 → Sound a → Sound (top-up-by a n)
@@ -158,7 +158,7 @@ sound-top-up a n h s =
         messages-ok = f .messages-ok;
       };
       money = record { worked = record { home-is = s .money .worked .home-is; extra-is = s .money .worked .extra-is }; balance = omega (arith, s .money .balance) };
-      days = record { days-ok = s .days .days-ok; rest-ok = s .days .rest-ok };
+      days = record { days-ok = s .days .days-ok; rest-ok = s .days .rest-ok; marks-ok = s .days .marks-ok };
     }
 
 sound-next : (a : Account) → a .state .day < 3833 → Sound a → Sound (day-after a)
@@ -189,6 +189,7 @@ sound-next a h s =
       days = record {
         days-ok = rw (add-one (a .state .logged), days-joined (a .state .today) (a .log)) (omega (arith, s .days .days-ok, over-joined (a .state .logged) (a .state .today) (days-of (a .log)) k));
         rest-ok = rw (add-one (a .state .logged), days-joined (a .state .today) (a .log)) (blank-joined (a .state .logged) (a .state .today) (days-of (a .log)) k (s .days .rest-ok));
+        marks-ok = marks-joined (a .state .today) (a .log) (s .days .marks-ok);
       };
     }
 
@@ -225,7 +226,7 @@ sound-use a k n l h s =
         messages-ok = f .messages-ok;
       };
       money = record { worked = spent-worked (a .state) u u u u; balance = omega (arith, h, s .money .balance, home-grows (a .state) u w, extra-grows (a .state) u w) };
-      days = record { days-ok = omega (arith, s .days .days-ok, day-use-bounded (a .state .place) u (a .state .today)); rest-ok = s .days .rest-ok };
+      days = record { days-ok = omega (arith, s .days .days-ok, day-use-bounded (a .state .place) u (a .state .today)); rest-ok = s .days .rest-ok; marks-ok = s .days .marks-ok };
     }
 
 -- what acceptance tells of a use, a top-up and a day change
@@ -284,7 +285,7 @@ sound-opened p e =
         messages-ok = refl;
       };
       money = record { worked = worked-none p; balance = refl };
-      days = record { days-ok = rw (days-empty, over-empty 0 123) (omega arith); rest-ok = rw days-empty (blank-empty 123) };
+      days = record { days-ok = rw (days-empty, over-empty 0 123) (omega arith); rest-ok = rw days-empty (blank-empty 123); marks-ok = marks-empty };
     }
 
 -- two uses, one after the other, are one use of their sum

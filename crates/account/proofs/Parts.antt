@@ -12,7 +12,7 @@ use Rattle.tariff.proofs.Tests.{all-nil, all-cons, all-head, all-tail}
 use Rattle.tariff.proofs.Sums.{fits-tells, fits-yes}
 use Rattle.presence.specs.declared.Day.{Day}
 use Rattle.presence.specs.Day.{day-units, joined}
-use Rattle.presence.specs.Log.{days-of, units-over, all-blank, log-within}
+use Rattle.presence.specs.Log.{days-of, units-over, all-blank, marks-proper, log-within}
 use Rattle.presence.proofs.Logs.{over-joined}
 use Rattle.metering.specs.Sound.{figures-sound, charges-sound}
 use Rattle.metering.specs.Needs.{Steady, Turns}
@@ -21,17 +21,22 @@ use Rattle.account.specs.declared.Account.{Account}
 use Rattle.account.specs.Whole.{sound}
 
 -- the log's part
-pub record Logged (ds : List Day) (today : Day) (n : ℕ) (lifetime : Units) : Type 0 where
-  pub days-ok : AtMost (day-units today ⊕ units-over n ds) lifetime
-  pub rest-ok : all-blank (drop n ds) ≡ true
+pub record Logged (xs : List ℕ) (today : Day) (n : ℕ) (lifetime : Units) : Type 0 where
+  pub days-ok : AtMost (day-units today ⊕ units-over n (days-of xs)) lifetime
+  pub rest-ok : all-blank (drop n (days-of xs)) ≡ true
+  pub marks-ok : marks-proper 123 xs ≡ true
 
-pub log-tells : (ds : List Day) (today : Day) (n : ℕ) (lifetime : Units) → log-within ds today n lifetime ≡ true → Logged ds today n lifetime
+pub log-tells : (xs : List ℕ) (today : Day) (n : ℕ) (lifetime : Units) → log-within xs today n lifetime ≡ true → Logged xs today n lifetime
 unfolding log-within
-log-tells ds today n lifetime e = record { days-ok = fits-tells _ _ (all-head _ _ e); rest-ok = all-head _ _ (all-tail _ _ e) }
+log-tells xs today n lifetime e = record {
+  days-ok = fits-tells _ _ (all-head _ _ e);
+  rest-ok = all-head _ _ (all-tail _ _ e);
+  marks-ok = all-head _ _ (all-tail _ _ (all-tail _ _ e));
+}
 
-pub log-passes : (ds : List Day) (today : Day) (n : ℕ) (lifetime : Units) → Logged ds today n lifetime → log-within ds today n lifetime ≡ true
+pub log-passes : (xs : List ℕ) (today : Day) (n : ℕ) (lifetime : Units) → Logged xs today n lifetime → log-within xs today n lifetime ≡ true
 unfolding log-within
-log-passes ds today n lifetime s = all-cons _ _ (fits-yes _ _ (s .days-ok)) (all-cons _ _ (s .rest-ok) all-nil)
+log-passes xs today n lifetime s = all-cons _ _ (fits-yes _ _ (s .days-ok)) (all-cons _ _ (s .rest-ok) (all-cons _ _ (s .marks-ok) all-nil))
 
 module _ (a : Account) (s : sound a ≡ true) where
   pub has-figures : figures-sound (a .state) ≡ true
@@ -42,7 +47,7 @@ module _ (a : Account) (s : sound a ≡ true) where
   unfolding sound
   has-charges = all-head _ _ (all-tail _ _ s)
 
-  pub has-log : Logged (days-of (a .log)) (a .state .today) (a .state .logged) (a .state .lifetime)
+  pub has-log : Logged (a .log) (a .state .today) (a .state .logged) (a .state .lifetime)
   unfolding sound
   has-log = log-tells _ _ _ _ (all-head _ _ (all-tail _ _ (all-tail _ _ s)))
 

@@ -19,7 +19,7 @@ unfoldable pub sound : Account → Bool
 sound a = all
     (figures-sound (a .state)
     ∷ charges-sound (a .state)
-    ∷ log-within (days-of (a .log)) (a .state .today) (a .state .logged) (a .state .lifetime)
+    ∷ log-within (a .log) (a .state .today) (a .state .logged) (a .state .lifetime)
     ∷ [])
 
 -- an account as Open returns it, with an empty log

@@ -1,16 +1,18 @@
 -- The log as it is kept, 13 numbers to a day, and the days that they stand for. Assumes nothing.
 use Prim.Native.Nat.{ℕ, zero, suc, _+_, _-_, _*_, _/_, _%_, _≤_, _<_}
 use mathlib.Core.Path.{_≡_, refl, sym, _∙_, ap}
-use mathlib.Core.Bool.{Bool, true, false}
+use mathlib.Core.Bool.{Bool, true, false, cond, _&&_}
 use mathlib.Core.List.{List, [], _∷_, _++_}
 use native.Mathlib.Omega.{arith}
-use lib.Dec.{eqb, lit≤}
+use lib.Dec.{eqb, leb, lit≤}
+use borrow.Author.Tests.{le-leb, lt-leb}
 use lib.ListN.{getD, drop, take, length, replicate}
 use lib.Seq.{getD-take, getD-drop, drop-drop, take-nil, length-take-le}
 use Rattle.tariff.specs.Units.{each}
+use Rattle.tariff.proofs.Tests.{and-left, and-right}
 use Rattle.presence.specs.declared.Day.{Day}
 use Rattle.presence.specs.Day.{empty-day, joined}
-use Rattle.presence.specs.Log.{numbers-of, day-from, days-first, days-of, logged-with}
+use Rattle.presence.specs.Log.{numbers-of, day-from, days-first, days-of, logged-with, marks-proper}
 
 -- a day's numbers stand for the day
 pub day-back : (d : Day) (xs : List ℕ) → day-from (numbers-of d ++ xs) ≡ d
@@ -105,3 +107,55 @@ day-at-is i xs h =
 pub logged-size : (d : Day) (xs : List ℕ) → length xs ≡ 1599 → length (logged-with d xs) ≡ 1599
 unfolding logged-with numbers-of
 logged-size d xs h = length-take-le 1599 (numbers-of d ++ xs) (rw h (lit≤ tt))
+
+-- proper marks, one day at a time
+pub marks-all : (i : ℕ) (xs : List ℕ) → 123 ≤ i → marks-proper (123 - i) (drop (13 * i) xs) ≡ true
+unfolding marks-proper
+marks-all i xs h = let e : 123 - i ≡ 0 = omega arith in rw e refl
+
+marks-at : (i : ℕ) (xs : List ℕ) → i < 123 → marks-proper (123 - i) (drop (13 * i) xs) ≡ leb (getD xs (13 * i) 0) 7 && marks-proper (123 - (i + 1)) (drop (13 * (i + 1)) xs)
+unfolding marks-proper
+marks-at i xs h =
+    let e : 123 - i ≡ suc (123 - (i + 1)) = omega arith in
+    let f : 13 * i + 13 ≡ 13 * (i + 1) = omega arith in
+    rw (e, at-place i 0 (13 * i) xs (omega arith), drop-drop 13 (13 * i) xs, f) refl
+
+module _ (i : ℕ) (xs : List ℕ) (h : i < 123) where
+  pub marks-bad : 7 < getD xs (13 * i) 0 → marks-proper (123 - i) (drop (13 * i) xs) ≡ false
+  marks-bad l = marks-at i xs h ∙ rw (lt-leb _ _ l) refl
+
+  pub marks-good : getD xs (13 * i) 0 ≤ 7 → marks-proper (123 - (i + 1)) (drop (13 * (i + 1)) xs) ≡ marks-proper (123 - i) (drop (13 * i) xs)
+  marks-good l = sym (marks-at i xs h ∙ rw (le-leb _ _ l) refl)
+
+marks-take : (n m : ℕ) (xs : List ℕ) → 13 * n ≤ m → marks-proper n (take m xs) ≡ marks-proper n xs
+unfolding marks-proper
+marks-take zero m xs h = refl
+marks-take (suc n) m xs h = rw (getD-take m xs 0 0 (omega arith), drop-take 13 m xs, marks-take n (m - 13) (drop 13 xs) (omega arith)) refl
+
+marks-fewer : (n : ℕ) (xs : List ℕ) → marks-proper (suc n) xs ≡ true → marks-proper n xs ≡ true
+unfolding marks-proper
+marks-fewer zero xs e = refl
+marks-fewer (suc n) xs e =
+    let t = leb (getD xs 0 0) 7 in
+    rw (and-left t _ e) (marks-fewer n (drop 13 xs) (and-right t _ e))
+
+number-proper : (h z e : Bool) → leb (cond h 1 0 + 2 * cond z 1 0 + 4 * cond e 1 0) 7 ≡ true
+number-proper true true true = refl
+number-proper true true false = refl
+number-proper true false true = refl
+number-proper true false false = refl
+number-proper false true true = refl
+number-proper false true false = refl
+number-proper false false true = refl
+number-proper false false false = refl
+
+-- marks stay proper as a day joins, and an empty log's are
+pub marks-joined : (d : Day) (xs : List ℕ) → marks-proper 123 xs ≡ true → marks-proper 123 (logged-with d xs) ≡ true
+unfolding logged-with numbers-of
+marks-joined d xs e =
+    marks-take 123 1599 (numbers-of d ++ xs) (lit≤ tt)
+    ∙ unfold marks-proper in rw (number-proper (d .home) (d .zone) (d .elsewhere)) (marks-fewer 122 xs e)
+
+pub marks-empty : marks-proper 123 (replicate 1599 0) ≡ true
+unfolding marks-proper
+marks-empty = refl

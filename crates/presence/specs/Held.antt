@@ -1,11 +1,11 @@
 -- What the code's own helpers ask and answer: sums held at a ceiling, and sums of a window. No rule of 01 stands here. Assumes nothing.
-use Prim.Native.Nat.{ℕ, zero, suc, _+_, _≤_, _<_, min}
+use Prim.Native.Nat.{ℕ, zero, suc, _+_, _≤_, min}
 use mathlib.Core.Path.{_≡_}
 use mathlib.Core.List.{List}
 use lib.Dec.{leb}
-use lib.ListN.{getD, length}
+use lib.ListN.{getD}
 use Rattle.tariff.specs.declared.Units.{Units}
-use Rattle.tariff.specs.Units.{each, AtMost}
+use Rattle.tariff.specs.Units.{each, zero-units, _⊕_, AtMost}
 use Rattle.presence.specs.declared.Day.{Day}
 use Rattle.presence.specs.declared.Sums.{Sums}
 use Rattle.presence.specs.declared.Windows.{Windows}
@@ -19,6 +19,18 @@ use Rattle.presence.specs.Service.{state-step}
 -- each kind held at 1,000,000,000,001, one more than any lifetime units
 abbrev pub held : Units → Units
 held u = each (min (u .kb) 1000000000001) (min (u .outgoing) 1000000000001) (min (u .incoming) 1000000000001) (min (u .sms) 1000000000001)
+
+-- a day's units and those of the first n days, each number held
+abbrev pub held-day : Day → Units
+held-day d = held (d .athome) ⊕ held (d .inzone) ⊕ held (d .outside)
+
+unfoldable pub held-over : ℕ → List Day → Units
+held-over zero ds = zero-units
+held-over (suc n) ds = held-day (getD ds n empty-day) ⊕ held-over n ds
+
+-- sums with room for one more day so held
+abbrev pub Roomy : Units → Type 0
+Roomy u = AtMost u (each 1000000000000000 1000000000000000 1000000000000000 1000000000000000)
 
 abbrev pub Low : Units → Type 0
 Low u = AtMost u (each 1000000000001 1000000000001 1000000000001 1000000000001)

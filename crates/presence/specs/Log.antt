@@ -2,7 +2,7 @@
 use Prim.Native.Nat.{ℕ, zero, suc, _+_, _*_, _/_, _%_}
 use mathlib.Core.Bool.{Bool, true, not, cond, _&&_}
 use mathlib.Core.List.{List, [], _∷_, _++_}
-use lib.Dec.{eqb}
+use lib.Dec.{eqb, leb}
 use lib.ListN.{getD, drop, take}
 use Rattle.tariff.specs.declared.Units.{Units}
 use Rattle.tariff.specs.Tests.{all}
@@ -64,6 +64,11 @@ all-blank (d ∷ ds) = blank d && all-blank ds
 abbrev pub lifetime-most : Units
 lifetime-most = each 1000000000000 1000000000000 1000000000000 1000000000000
 
--- "today's units with the log's are at most the lifetime units of their kind"; places past the n logged days hold nothing
-unfoldable pub log-within : List Day → Day → ℕ → Units → Bool
-log-within ds today n lifetime = all (fits (day-units today ⊕ units-over n ds) lifetime ∷ all-blank (drop n ds) ∷ [])
+-- the marks of each of the first n days are a number from 0 to 7, so that the numbers hold the days and nothing else
+unfoldable pub marks-proper : ℕ → List ℕ → Bool
+marks-proper zero xs = true
+marks-proper (suc n) xs = leb (getD xs 0 0) 7 && marks-proper n (drop 13 xs)
+
+-- "today's units with the log's are at most the lifetime units of their kind"; places past the n logged days hold nothing; marks are proper
+unfoldable pub log-within : List ℕ → Day → ℕ → Units → Bool
+log-within xs today n lifetime = all (fits (day-units today ⊕ units-over n (days-of xs)) lifetime ∷ all-blank (drop n (days-of xs)) ∷ marks-proper 123 xs ∷ [])

@@ -11,8 +11,8 @@ ghost use Rattle.tariff.specs.Units.{_⊕_, each, AtMost};
 ghost use Rattle.presence.specs.Day.{in-zone, is-placed, mark-day, add-day, DayAdds, counts-as, zone-day, day-units, empty-day};
 ghost use Rattle.presence.specs.Window.{zone-units, other-units, window-sums, sums-zone, sums-other, prevailing};
 ghost use Rattle.presence.specs.Service.{next-state, state-step, services-after};
-ghost use Rattle.presence.specs.Log.{marks-number, numbers-of, days-of, logged-with, units-over, blank, all-blank, lifetime-most, log-within};
-ghost use Rattle.presence.specs.Held.{held, Low, Small, sums-with, both-windows, stepped-by};
+ghost use Rattle.presence.specs.Log.{marks-number, numbers-of, days-of, logged-with, units-over, blank, all-blank, marks-proper, lifetime-most, log-within};
+ghost use Rattle.presence.specs.Held.{held, held-day, held-over, Roomy, Low, Small, sums-with, both-windows, stepped-by};
 
 // Where the hotspot is: nowhere before the first registration.
 pub enum Location {
@@ -495,21 +495,21 @@ pub fn services_next(s: Services, log: &[u64; 1599], n: usize) -> Services
     }
 }
 
-// The sum, held at 1,000,000,000,001.
+// The sum with one number more, which is held at 1,000,000,000,001.
 fn hold(a: u64, b: u64) -> u64
-    requires { ⌜ a ≤ 1000000000001 ⌝ }
-    ensures { λ r. ⌜ r ≡ min (b + a) 1000000000001 ⌝ }
+    requires { ⌜ a ≤ 2000000000000000 ⌝ }
+    ensures { λ r. ⌜ r ≡ min b 1000000000001 + a ⌝ }
 {
-    if b >= 1000000000001 - a {
-        1000000000001
+    if b < 1000000000001 {
+        b + a
     } else {
-        a + b
+        1000000000001 + a
     }
 }
 
 fn hold_units(sum: Units, u: Units) -> Units
-    requires { ⌜ Low sum ⌝ }
-    ensures { λ r. ⌜ r ≡ held (u ⊕ sum) ⌝ }
+    requires { ⌜ AtMost sum (each 2000000000000000 2000000000000000 2000000000000000 2000000000000000) ⌝ }
+    ensures { λ r. ⌜ r ≡ held u ⊕ sum ⌝ }
 {
     Units {
         kb: hold(sum.kb, u.kb),
@@ -520,18 +520,18 @@ fn hold_units(sum: Units, u: Units) -> Units
 }
 
 fn hold_day(sum: Units, d: Day) -> Units
-    requires { ⌜ Low sum ⌝ }
-    ensures { λ r. ⌜ r ≡ held (day-units d ⊕ sum) ⌝ }
+    requires { ⌜ Roomy sum ⌝ }
+    ensures { λ r. ⌜ r ≡ held-day d ⊕ sum ⌝ }
 {
     let a = hold_units(sum, d.outside);
     let b = hold_units(a, d.inzone);
     hold_units(b, d.athome)
 }
 
-// The units of the first n days, whatever they hold.
+// The units of the first n days, each number held: any values will do.
 fn tally(log: &[u64; 1599], n: usize) -> Units
     requires { ⌜ n ≤ 123 ⌝ }
-    ensures { λ r. ⌜ r ≡ held (units-over n (days-of (now (log .entry)))) ⌝ }
+    ensures { λ r. ⌜ r ≡ held-over n (days-of (now (log .entry))) ⌝ }
 {
     let mut sum = Units {
         kb: 0,
@@ -571,13 +571,28 @@ fn rest_blank(log: &[u64; 1599], n: usize) -> bool
     true
 }
 
-// Are the units of today and of the n logged days within the lifetime units, and the other places blank?
+// Are the marks of each day a number from 0 to 7?
+fn marks_fit(log: &[u64; 1599]) -> bool
+    ensures { λ r. ⌜ r ≡ marks-proper 123 (now (log .entry)) ⌝ }
+{
+    let mut i: usize = 0;
+    while i < 123 {
+        if log[13 * i] > 7 {
+            return false;
+        }
+        i += 1;
+    }
+    true
+}
+
+// Are the units of today and of the n logged days within the lifetime units, the other places blank, and all marks proper?
 pub fn log_fits(log: &[u64; 1599], today: Day, n: u64, lifetime: Units) -> bool
     requires { ⌜ (n ≤ 123) × AtMost lifetime lifetime-most ⌝ }
-    ensures { λ r. ⌜ r ≡ log-within (days-of (now (log .entry))) today n lifetime ⌝ }
+    ensures { λ r. ⌜ r ≡ log-within (now (log .entry)) today n lifetime ⌝ }
 {
     let k = n as usize;
     let sum = hold_day(tally(log, k), today);
     let rest = rest_blank(log, k);
-    tariff::units_fit(sum, lifetime) & rest
+    let marks = marks_fit(log);
+    tariff::units_fit(sum, lifetime) & rest & marks
 }

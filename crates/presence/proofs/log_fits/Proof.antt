@@ -2,8 +2,9 @@
 use Rattle.tariff.specs.declared.Units.{Units}
 use Rattle.tariff.specs.Tests.{all}
 use Rattle.tariff.specs.Units.{_⊕_, fits}
-use Rattle.presence.proofs.Ceiling.{held-twice, held-low, fits-held}
-use Rattle.presence.specs.Held.{held}
+use native.Mathlib.Omega.{arith}
+use Rattle.presence.proofs.Ceiling.{held-room, fits-days}
+use Rattle.presence.specs.Held.{held-day, held-over}
 use Rattle.presence.specs.Day.{day-units}
 use Rattle.presence.specs.Log.{days-of, units-over, log-within}
 use mathlib.Core.Path.{_≡_, _∙_, ap}
@@ -15,27 +16,34 @@ tally-requires : tie.Need-tally-requires
 tally-requires c κs = search needs
 
 hold-day-requires : tie.Need-hold-day-requires
-hold-day-requires c κs = rw (c .tally .ensures) (held-low _)
+hold-day-requires c κs = rw (c .tally .ensures) (held-room _ _ (omega arith))
 
 rest-blank-requires : tie.Need-rest-blank-requires
 rest-blank-requires c κs = search needs
+
+marks-fit-requires : tie.Need-marks-fit-requires
+marks-fit-requires c κs = search needs
 
 units-fit-requires : tie.Need-units-fit-requires
 units-fit-requires c κs = search needs
 
 returns : tie.Need-returns
 unfolding log-within all
-returns c = let d = c .before .before .before .before in
+returns c = let d = c .before .before .before .before .before in
     let a = d .args in
-    let s = day-units (a .today) ⊕ units-over (a .n) (days-of (a .log .now)) in
-    let h : c .before .before .hold-day .result ≡ held s =
-    c .before .before .hold-day .ensures ∙ ap (λ (t : Units). held (day-units (a .today) ⊕ t)) (c .before .before .before .tally .ensures)
-    ∙ held-twice (day-units (a .today)) (units-over (a .n) (days-of (a .log .now))) in
-    let e : c .units-fit .result ≡ fits s (a .lifetime) =
-    c .units-fit .ensures ∙ ap (λ (t : Units). fits t (a .lifetime)) h ∙ fits-held s (a .lifetime) (d .pre .1) in
-    simp (e, c .before .rest-blank .ensures)
+    let h : c .before .before .before .hold-day .result ≡ held-day (a .today) ⊕ held-over (a .n) (days-of (a .log .now)) =
+    c .before .before .before .hold-day .ensures ∙ ap (λ (t : Units). held-day (a .today) ⊕ t) (c .before .before .before .before .tally .ensures) in
+    let e : c .units-fit .result ≡ fits (day-units (a .today) ⊕ units-over (a .n) (days-of (a .log .now))) (a .lifetime) =
+    c .units-fit .ensures ∙ ap (λ (t : Units). fits t (a .lifetime)) h ∙ fits-days (a .today) (a .n) (days-of (a .log .now)) (a .lifetime) (d .pre .1) in
+    simp (e, c .before .before .rest-blank .ensures, c .before .marks-fit .ensures)
 
 pub log-fits-spec : {M : Type 1} → statement M
 log-fits-spec =
     tie.close
-    (tie.spec tally-requires hold-day-requires rest-blank-requires units-fit-requires returns)
+    (tie.spec
+    tally-requires
+    hold-day-requires
+    rest-blank-requires
+    marks-fit-requires
+    units-fit-requires
+    returns)

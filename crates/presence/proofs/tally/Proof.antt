@@ -1,30 +1,27 @@
 -- `presence::tally` meets its contract. Assumes nothing.
-use Rattle.presence.proofs.Logs.{over-next, over-none}
-use Rattle.presence.proofs.Ceiling.{held-twice, held-low}
-use Rattle.presence.specs.Held.{held}
-use lib.ListN.{getD}
-use Rattle.presence.specs.Log.{days-of, units-over}
-use Rattle.presence.specs.Day.{empty-day, day-units}
+use Rattle.presence.proofs.Ceiling.{held-none, held-next, held-room}
+use Rattle.presence.specs.Held.{held-over}
+use Rattle.presence.specs.Log.{days-of}
 use Prim.Native.Nat.{_≤_, _-_}
-use mathlib.Core.Path.{_≡_, refl, sym, _∙_, ap}
+use mathlib.Core.Path.{_≡_, refl, sym, _∙_}
 use native.Mathlib.Omega.{arith}
 use Rattle.presence.proofs.tally.Statement.{statement}
 use Rattle.presence.proofs.tally.Tie as tie
 
 abbrev Inv-loop : tie.InvT-loop
-Inv-loop log n sum₀ i₀ sum i = (i ≤ n) × (n ≤ 123) × (sum ≡ held (units-over i (days-of log)))
+Inv-loop log n sum₀ i₀ sum i = (i ≤ n) × (n ≤ 123) × (sum ≡ held-over i (days-of log))
 
 abbrev μ-loop : tie.MeasureT-loop
 μ-loop log n sum₀ i₀ sum i = n - i
 
 loop-holds : tie.Need-loop-holds Inv-loop μ-loop
-loop-holds c = (omega arith, omega arith, sym (ap held (over-none 0 (days-of (c .args .log .now)) refl)))
+loop-holds c = (omega arith, omega arith, sym (held-none 0 (days-of (c .args .log .now)) refl))
 
 day-at-requires : tie.Need-day-at-requires Inv-loop μ-loop
 day-at-requires c κs = omega arith
 
 hold-day-requires : tie.Need-hold-day-requires Inv-loop μ-loop
-hold-day-requires c κs = rw (c .before .before .loop .inv .2) (held-low _)
+hold-day-requires c κs = rw (c .before .before .loop .inv .2) (held-room _ _ (omega arith))
 
 add-i : tie.Need-add-i Inv-loop μ-loop
 add-i c = omega arith
@@ -35,7 +32,7 @@ loop-less c = omega arith
 loop-again : tie.Need-loop-again Inv-loop μ-loop
 loop-again c = let b = c .before .before .before in
     let ds = days-of (b .before .args .log .now) in
-    (omega arith, omega arith, c .hold-day .ensures ∙ rw (b .loop .inv .2, c .before .day-at .ensures) (held-twice (day-units (getD ds (b .loop .i) empty-day)) (units-over (b .loop .i) ds)) ∙ sym (ap held (over-next (b .loop .i) ds)))
+    (omega arith, omega arith, c .hold-day .ensures ∙ rw (b .loop .inv .2, c .before .day-at .ensures) (sym (held-next (b .loop .i) ds)))
 
 returns : tie.Need-returns Inv-loop μ-loop
 returns c = let e : c .before .loop .i ≡ c .before .before .args .n = omega arith in
