@@ -5,7 +5,8 @@
 //! Programs: `refstatement` prints a statement, `selfcheck` holds the meter
 //! against the book, `differ` holds the proved meter against this one, `bench`
 //! measures both. `planted.sh` shows that `differ` finds wrong rules, and
-//! `instructions.sh` counts the proved meter's instructions.
+//! `instructions.sh` counts the proved meter's instructions; the example `timing`
+//! times this meter alone.
 
 pub mod book;
 pub mod calendar;

@@ -51,7 +51,7 @@ impl Trace {
 }
 
 /// Another list with the same cuts and stretches: uses are split and shuffled
-/// within each stretch, and calls that are no cuts are strewn in.
+/// within each stretch, and calls that are no cuts are inserted.
 pub fn rearranged(rng: &mut Rng, trace: &Trace) -> Vec<Call> {
     let mut calls = Vec::new();
     for (index, sums) in trace.sums.iter().enumerate() {

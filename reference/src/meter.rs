@@ -393,13 +393,13 @@ impl Account {
             return Err(0);
         }
         let place = self.place.ok_or(3u32)?;
-        let purse = self.home + self.extra + self.credit;
+        let funds = self.home + self.extra + self.credit;
         let room = MAX_LIFETIME - self.lifetime[kind as usize];
         let (mut least, mut most) = (0, MAX_UNITS.min(room));
         while least < most {
             let n = least + (most - least).div_ceil(2);
             let charge = self.charge(place, kind, n, caps[kind as usize]);
-            if charge.home + charge.extra <= purse {
+            if charge.home + charge.extra <= funds {
                 least = n;
             } else {
                 most = n - 1;

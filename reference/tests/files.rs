@@ -60,7 +60,7 @@ fn read_11_before_12() {
 }
 
 #[test]
-fn reading_26_empty_sections_and_exact_sums() {
+fn empty_sections_and_exact_sums() {
     let empty = assemble(&[
         (5, vec![]),
         (1, plan_words()),
@@ -81,7 +81,7 @@ fn reading_26_empty_sections_and_exact_sums() {
 }
 
 #[test]
-fn reading_27_other_kinds_and_either_order() {
+fn other_kinds_and_either_order() {
     let sections = [
         (0, vec![1, 2, 3, 4]),
         (2, calls_words()),
@@ -95,7 +95,7 @@ fn reading_27_other_kinds_and_either_order() {
 }
 
 #[test]
-fn reading_29_order_of_13_14_15_1_2() {
+fn order_of_13_14_15_1_2() {
     let bad_plan = to_bytes(&[9; 7]);
     let late = to_bytes(&prepaid(3834, 1, 2, 3).to_words());
     let bad_calls = to_bytes(&[1, 1, 8, 0]);
@@ -136,7 +136,7 @@ fn read_15_codes_and_numbers() {
 }
 
 #[test]
-fn reading_30_numbers_out_of_range_are_refused_calls() {
+fn numbers_out_of_range_are_refused_calls() {
     let bytes = file(
         &prepaid(1461, 0, 0, 0),
         &[(1, 0), (2, 0), (3, u32::MAX), (6, 0)],
@@ -169,7 +169,7 @@ fn finding_hands_back_the_part_itself() {
 }
 
 #[test]
-fn reading_32_the_reader_stays_where_fewer_than_8_remain() {
+fn the_reader_stays_where_fewer_than_8_remain() {
     let section = to_bytes(&[9, 8, 7, 6, 5]);
     let mut reader = CallReader::new(&section);
     assert_eq!(reader.next(), Some((9, 8)));
@@ -179,7 +179,7 @@ fn reading_32_the_reader_stays_where_fewer_than_8_remain() {
 }
 
 #[test]
-fn reading_33_order_of_writing_and_the_buffer() {
+fn order_of_writing_and_the_buffer() {
     let fine = prepaid(1461, 1, 2, 3);
     let bad = Plan { fee: 1, ..fine };
     let late = Plan {

@@ -86,7 +86,7 @@ fn paid_in_over_its_limit_is_unsound_though_the_sums_agree() {
     assert_refused(&account);
 }
 
-/// Reading 22: the list of 01 and nothing more.
+/// Soundness is the list of 01 and nothing more.
 #[test]
 fn odd_accounts_that_are_sound() {
     let changes: [fn(&mut Account); 7] = [
@@ -108,7 +108,7 @@ fn odd_accounts_that_are_sound() {
     assert!(account.sound());
 }
 
-/// Reading 25: any values at all are refused or sound, and nothing overflows.
+/// Any values at all are refused or sound, and nothing overflows.
 #[test]
 fn any_values_never_overflow() {
     let mut rng = Rng::new(7);

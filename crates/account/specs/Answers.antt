@@ -1,4 +1,4 @@
--- What each call answers, beside the account that it hands back. Assumes nothing.
+-- 01, "Account and its calls": what each call answers, beside the account that it hands back. Assumes nothing.
 use Prim.Native.Nat.{ℕ, _<_}
 use mathlib.Core.Path.{_≡_}
 use mathlib.Core.Bool.{Bool, true, false, cond}
@@ -53,6 +53,7 @@ abbrev pub afford-answer : Verdict → ℕ → AffordAnswer
 afford-answer Accepted n = UpTo n
 afford-answer (Refused r) n = Withheld r
 
+-- Afford's answer with the account, which stays
 unfoldable pub afford-result : Account → Kind → Afforded
 afford-result a k = record { answer = afford-answer (verdict a (Afford k)) (afford-of a k); account = step a (Afford k) }
 
@@ -61,12 +62,14 @@ pub record Affordable (a : Account) (k : Kind) (r : ℕ) : Type 0 where
   pub passes : 0 < r → accepts a (Use k r) ≡ true
   pub none-larger : (m : ℕ) → r < m → accepts a (Use k m) ≡ false
 
--- an account from all but the log and the log, and what a call answers, with all of the account but its log
+-- an account from all but the log and the log
 abbrev pub account-of : State → List ℕ → Account
 account-of s l = record { state = s; log = l }
 
+-- what a registration, a top-up or a day change answers, with all of the account but its log
 abbrev pub answered-state : Answered → StateAnswered
 answered-state x = record { answer = x .answer; state = x .account .state }
 
+-- the same of a use
 abbrev pub used-state : Used → StateUsed
 used-state x = record { answer = x .answer; state = x .account .state }

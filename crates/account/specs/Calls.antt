@@ -26,6 +26,7 @@ own-reasons a (Afford k) = because 3 (not (is-placed (a .state .place))) ∷ []
 unfoldable pub reasons : Account → Call → List Reason
 reasons a c = because 0 (not (sound a)) ∷ own-reasons a c
 
+-- accepted, or the number of the first reason that holds
 unfoldable pub verdict : Account → Call → Verdict
 verdict a c = verdict-of (reasons a c)
 

@@ -30,13 +30,13 @@ opened p = record { state = opened-state p; log = replicate 1599 0 }
 unfoldable pub register-at : Account → Place → Account
 register-at a p = record { state = registered (a .state) p; log = a .log }
 
--- Use, as a spend of a vector of units
-unfoldable pub spend : Account → Units → Account
-spend a u = record { state = spent (a .state) u u; log = a .log }
-
 -- Top-up
 unfoldable pub top-up-by : Account → ℕ → Account
 top-up-by a n = record { state = topped (a .state) n; log = a .log }
+
+-- Use, as a spend of a vector of units
+unfoldable pub spend : Account → Units → Account
+spend a u = record { state = spent (a .state) u u; log = a .log }
 
 -- Next day: today joins the log, then the rest follows from the log with it
 unfoldable pub day-after : Account → Account

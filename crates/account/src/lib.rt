@@ -248,6 +248,7 @@ impl Account {
         let used = use_with(state, &self.log, k, n);
         let answer = used.answer;
         let next = used.state;
+        // Made anew and not changed in place: so the compiled code copies the log once and not twice.
         let account = Account {
             state: next,
             ..self

@@ -20,11 +20,12 @@ use Rattle.report.specs.declared.Figures.{Figures}
 use Rattle.report.specs.declared.Report.{Report}
 use Rattle.report.specs.declared.Report.the-variants.{Lines, Refused}
 
--- L: whether it is a number, and that number
+-- L: 1 where it is a number, else 0
 abbrev pub limit-known : Allowance → ℕ
 limit-known NoLimit = 0
 limit-known (Kilobytes n) = 1
 
+-- L: that number, else 0
 abbrev pub limit-kb : Allowance → ℕ
 limit-kb NoLimit = 0
 limit-kb (Kilobytes n) = n
@@ -35,18 +36,21 @@ with-figures f out =
     set (set (set (set (set (set (set (set (set (set out 0 (f .day)) 1 (f .paid)) 2 (f .credit)) 3 (f .home)) 4 (f .extra))
     5 (limit-known (f .limit))) 6 (limit-kb (f .limit))) 7 (f .roamed)) 8 (f .past)) 9 (f .refused)
 
--- the answer, and what then stands in the places
+-- the answer
 abbrev pub report-number : Report → ℕ
 report-number (Lines f) = 0
 report-number (Refused n) = n
 
+-- what then stands in the places
 abbrev pub report-places : Report → List ℕ → List ℕ
 report-places (Lines f) out = with-figures f out
 report-places (Refused n) out = out
 
+-- the answer, with 1000 where there are fewer than ten places
 unfoldable pub statement-number : Report → ℕ → ℕ
 statement-number r places = cond (ltb places 10) 1000 (report-number r)
 
+-- what then stands in the places; fewer than ten stay as they were
 unfoldable pub statement-out : Report → List ℕ → List ℕ
 statement-out r out = cond (ltb (length out) 10) out (report-places r out)
 
@@ -59,9 +63,11 @@ abbrev pub afford-number : AffordAnswer → ℕ
 afford-number (UpTo n) = n
 afford-number (Withheld r) = 2000000000 + r % 1000
 
+-- what Afford answers after the calls of a file that was read, or the number of a bad file
 unfoldable pub afford-on : List ℕ → Kind → Read → ℕ
 afford-on f k (Told.Trip p n) = afford-number (afford-result (replay-of (open-answer p .account) (codes-of (calls-of f)) (numbers-of (calls-of f)) .account) k .answer)
 afford-on f k (Told.Refused n) = 3000000000 + n % 1000
 
+-- the same of a file's bytes
 unfoldable pub afford-after : List ℕ → ℕ → ℕ
 afford-after f n = afford-on f (kind-number n) (read-of f)

@@ -24,20 +24,23 @@ abbrev pub allows : Allowance → ℕ → Bool
 allows NoLimit n = false
 allows (Kilobytes l) n = eqb l n
 
--- a bundle without other prices, and a prepaid plan with a data price
+-- a bundle without other prices
 abbrev pub bundle : Form → ℕ → ℕ → Plan
 bundle f fee volume = record { form = f; start = 181; pergb = 0; perminute = 0; persms = 0; fee = fee; volume = volume }
 
+-- a prepaid plan with a data price
 abbrev pub prepaid-at : ℕ → Plan
 prepaid-at price = record { form = Prepaid; start = 181; pergb = price; perminute = 0; persms = 0; fee = 0; volume = 0 }
 
--- a day marked zone, or home, with kB used there
+-- a day marked zone with kB used there
 abbrev pub zone-kb : ℕ → Day
 zone-kb n = record { home = false; zone = true; elsewhere = false; athome = zero-units; inzone = only Data n; outside = zero-units }
 
+-- a day marked home with kB used there
 abbrev pub home-kb : ℕ → Day
 home-kb n = record { home = true; zone = false; elsewhere = false; athome = only Data n; inzone = zero-units; outside = zero-units }
 
+-- the figures, each as a test that holds
 unfoldable pub figures : List Bool
 figures =
     -- "Fee 900000, cap 77000: L 24512166"
@@ -51,7 +54,7 @@ figures =
     -- "Prepaid credit 2000, cap 970: L 2162012; that use at 500/GB costs 1030"
     ∷ allows (credit-allowance 2000 970) 2162012
     ∷ eqb (home-charges-of (prepaid-at 500) (only Data 2162012)) 1030
-    -- "61 zone days of 123 aren't prevalent", however many units; "62 with zone units one more than the others are"
+    -- "61 zone days of 123 aren't prevalent", with 61,000 zone kB against none; "62 with zone units one more than the others are"
     ∷ not (prevalent-long DataService 123 (replicate 61 (zone-kb 1000) ++ replicate 62 (home-kb 0)))
     ∷ prevalent-long DataService 123 (replicate 62 (zone-kb 1) ++ replicate 61 (home-kb 1))
     -- "Day 1460 has data cap 13000, 1461 has 11000"

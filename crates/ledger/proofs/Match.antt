@@ -92,7 +92,7 @@ absorb-inj a u v e =
     let t : u .sms ≡ v .sms = omega (arith, ap (λ (x : Units). x .sms) l) in
     λ i. record { kb = k i; outgoing = o i; incoming = n i; sms = t i }
 
--- the accounts snapshots, from the boundaries and the units of the segments alone
+-- the accounts of `snapshots`, from the boundaries and the units of the segments alone
 replay : Account → Units → List Call → List Units → List Account
 replay a u [] vs = absorb a u ∷ []
 replay a u (k ∷ ks) [] = absorb a u ∷ []
@@ -188,7 +188,7 @@ head-eq x y xs ys e = cc
 tail-eq : {A : Type 0} (x y : A) (xs ys : List A) → x ∷ xs ≡ y ∷ ys → xs ≡ ys
 tail-eq x y xs ys e = cc
 
--- the accounts snapshots tell the units of every stretch
+-- the accounts of `snapshots` tell the units of every stretch
 replay-inj : (a : Account) (u v : Units) (ks : List Call) (us vs : List Units) → length us ≡ length ks → length vs ≡ length ks
     → replay a u ks us ≡ replay a v ks vs → u ∷ us ≡ v ∷ vs
 unfolding replay

@@ -41,9 +41,10 @@ Matches a b xs ys =
 pub record Claim (p : Plan) (a b : Account) (xs ys : List Call) : Type 0 where
   pub matched : Matches a b xs ys
   pub shown : Shown p (run a xs) (entries-of p a xs)
-  -- refusal 0 never arises, so nothing above is hollow
+  -- refusal 0 never arises, so the parts above are about the calls as they are meant
   pub stays-sound : sound (run a xs) ≡ true
 
+-- demand 3: for every plan, any two accounts opened alike under it, and any two lists
 abbrev pub Demand3 : Type 0
 Demand3 = (p : Plan) (a b : Account) → OpensAs p a → OpensAs p b → (xs ys : List Call) → Claim p a b xs ys
 

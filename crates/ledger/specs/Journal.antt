@@ -37,6 +37,7 @@ pub record Entry : Type 0 where
   pub day : ℕ
   pub place : Location
 
+-- the book as it is written: its items, the day and the place that the next one gets
 pub record Journal : Type 0 where
   pub entries : List Entry
   pub day : ℕ
@@ -46,7 +47,7 @@ pub record Journal : Type 0 where
 unfoldable pub new-journal : Plan → Journal
 new-journal p = record { entries = []; day = p .start; place = Nowhere }
 
--- "A registration sets the place, a day change adds 1 to the day."
+-- "A registration sets the place"
 unfoldable pub place-after : Location → Call → Location
 place-after w (Register q) = At q
 place-after w (Use k n) = w
@@ -54,6 +55,7 @@ place-after w (TopUp n) = w
 place-after w NextDay = w
 place-after w (Afford k) = w
 
+-- "a day change adds 1 to the day"
 unfoldable pub day-next : ℕ → Call → ℕ
 day-next d (Register q) = d
 day-next d (Use k n) = d
@@ -61,6 +63,7 @@ day-next d (TopUp n) = d
 day-next d NextDay = suc d
 day-next d (Afford k) = d
 
+-- one accepted call more
 unfoldable pub enter : Journal → Call → Journal
 enter j c = record {
   entries = record { call = c; day = j .day; place = place-after (j .place) c } ∷ j .entries;
@@ -78,7 +81,7 @@ unfoldable pub write : Journal → List (Call × Bool) → Journal
 write j [] = j
 write j (f ∷ fs) = write (cond (f .1) (enter j (f .0)) j) fs
 
--- "Paid in is the sum of the top-ups."
+-- the amount of a top-up
 unfoldable pub amount-of : Call → ℕ
 amount-of (Register q) = 0
 amount-of (Use k n) = 0
@@ -86,14 +89,16 @@ amount-of (TopUp n) = n
 amount-of NextDay = 0
 amount-of (Afford k) = 0
 
+-- "Paid in is the sum of the top-ups."
 unfoldable pub paid-in : List Entry → ℕ
 paid-in [] = 0
 paid-in (e ∷ es) = paid-in es + amount-of (e .call)
 
--- an entry's units that a home price can bear on, and its zone units
+-- an entry's units that a home price can bear on
 unfoldable pub home-part : Entry → Units
 home-part e = billable (e .place) (units-of (e .call))
 
+-- an entry's zone units
 unfoldable pub zone-part : Entry → Units
 zone-part e = roaming (e .place) (units-of (e .call))
 
@@ -155,11 +160,12 @@ changes-month p d (TopUp n) = false
 changes-month p d NextDay = not (is-prepaid (p .form)) && not (eqb (month-of (suc d)) (month-of d))
 changes-month p d (Afford k) = false
 
--- zone kB in the entries of the day's month; zone kB since the last entry into the zone or top-up there
+-- zone kB in the entries of the day's month
 unfoldable pub zone-of-month : ℕ → List Entry → ℕ
 zone-of-month d [] = 0
 zone-of-month d (e ∷ es) = zone-of-month d es + of-month d e (zone-part e .kb)
 
+-- zone kB since the last entry into the zone or top-up there
 unfoldable pub zone-since : List Entry → ℕ
 zone-since [] = 0
 zone-since (e ∷ es) = cond (sets-allowance Prepaid (last-place es) (e .call)) 0 (zone-since es + zone-part e .kb)
@@ -168,7 +174,7 @@ zone-since (e ∷ es) = cond (sets-allowance Prepaid (last-place es) (e .call)) 
 unfoldable pub journal-roamed : Plan → ℕ → List Entry → ℕ
 journal-roamed p d es = cond (is-prepaid (p .form)) (zone-since es) (zone-of-month d es)
 
--- "A day's marks are the places of its registrations and uses"
+-- registrations and uses are the calls that mark a day
 unfoldable pub marks : Call → Bool
 marks (Register q) = true
 marks (Use k n) = true
@@ -176,6 +182,7 @@ marks (TopUp n) = false
 marks NextDay = false
 marks (Afford k) = false
 
+-- "A day's marks are the places of its registrations and uses": is the day marked with the place?
 unfoldable pub marked-on : ℕ → Place → List Entry → Bool
 marked-on d p [] = false
 marked-on d p (e ∷ es) = (eqb (e .day) d && (marks (e .call) && at-place p (e .place))) || marked-on d p es
@@ -185,6 +192,7 @@ unfoldable pub used-on : ℕ → Place → List Entry → Units
 used-on d p [] = zero-units
 used-on d p (e ∷ es) = cond (eqb (e .day) d && at-place p (e .place)) (used-on d p es ⊕ units-of (e .call)) (used-on d p es)
 
+-- the day, its marks "with its units"
 unfoldable pub day-of : ℕ → List Entry → Day
 day-of d es = record {
   home = marked-on d Home es;
@@ -195,11 +203,12 @@ day-of d es = record {
   outside = used-on d Elsewhere es;
 }
 
--- the first k days from the start, the latest first; the last 123 of them, with empty days where they are fewer
+-- the first k days from the start, the latest first
 unfoldable pub days : ℕ → ℕ → List Entry → List Day
 days s zero es = []
 days s (suc k) es = day-of (s + k) es ∷ days s k es
 
+-- the last 123 of them, with empty days where they are fewer
 unfoldable pub last-days : List Day → List Day
 last-days ds = take 123 (ds ++ replicate 123 empty-day)
 

@@ -41,15 +41,17 @@ units-of (TopUp n) = zero-units
 units-of NextDay = zero-units
 units-of (Afford k) = zero-units
 
--- "A stretch runs from the opening or a cut to the next cut or the end, and may be empty": the units of the first stretch, and of those after each cut
+-- "A stretch runs from the opening or a cut to the next cut or the end, and may be empty": the units of the first
 unfoldable pub first-segment : List Call → Units
 first-segment [] = zero-units
 first-segment (c ∷ cs) = cond (is-boundary c) zero-units (units-of c ⊕ first-segment cs)
 
+-- the units of the stretches after each cut
 unfoldable pub later-segments : List Call → List Units
 later-segments [] = []
 later-segments (c ∷ cs) = cond (is-boundary c) (first-segment cs ∷ later-segments cs) (later-segments cs)
 
+-- the units of all stretches, one more than there are cuts
 unfoldable pub segments : List Call → List Units
 segments cs = first-segment cs ∷ later-segments cs
 

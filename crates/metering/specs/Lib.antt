@@ -1,5 +1,5 @@
-pub mod Use
-pub mod Moves
 pub mod Sound
+pub mod Moves
+pub mod Use
 pub mod Reasons
 pub mod Needs

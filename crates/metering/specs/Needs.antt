@@ -1,4 +1,5 @@
--- What the code's own helpers ask, so that their sums stay within the machine's numbers. No rule of 01 stands here. Assumes nothing.
+-- What the code's own helpers ask, so that their sums stay within the machine's numbers. What of 01 recurs here (`bears`) is tied to its rule
+-- by the contract of `billable_of`. Assumes nothing.
 use Prim.Native.Nat.{ℕ, _+_, _≤_, _<_, min}
 use mathlib.Core.Path.{_≡_}
 use mathlib.Core.Bool.{Bool, true, false}

@@ -29,7 +29,7 @@ use-reasons a k n =
 unfoldable pub top-up-reasons : State → ℕ → List Reason
 top-up-reasons a n = because 7 (not (between 1 n 10000000)) ∷ because 8 (ltb 1000000000 (a .paid + n)) ∷ []
 
--- "Next day: 9 on day 3833"
+-- "Next day: 9 on day 3833"; a sound account's day is never later
 unfoldable pub next-day-reasons : State → List Reason
 next-day-reasons a = because 9 (leb 3833 (a .day)) ∷ []
 

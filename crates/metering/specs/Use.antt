@@ -28,7 +28,7 @@ billable (At Home) u = u
 billable (At Zone) u = u
 billable (At Elsewhere) u = zero-units
 
--- the zone units
+-- "zone units": those of a use in the zone
 unfoldable pub roaming : Location → Units → Units
 roaming Nowhere u = zero-units
 roaming (At Home) u = zero-units
@@ -45,7 +45,7 @@ surcharged-of Clear past n = past
 surcharged-of (Warned k) past n = past
 surcharged-of Surcharged past n = n
 
--- "Surcharge bears on zone kB after the first L of R, and on all zone units of a service whose state is Surcharged", after r zone kB
+-- "Surcharge, at the day's cap" (`basis-after`), "bears on zone kB after the first L of R, and on all zone units of a service whose state is Surcharged", after r zone kB
 unfoldable pub surcharged-units : Services → Allowance → ℕ → Units → Units
 surcharged-units s l r z = record {
   kb = surcharged-of (s .internet) (after-allowance l r (z .kb)) (z .kb);
@@ -54,20 +54,23 @@ surcharged-units s l r z = record {
   sms = surcharged-of (s .messages) 0 (z .sms);
 }
 
--- the priced units, the newly surcharged ones, and the sums of cap × surcharged units, after a use charged as c
+-- "priced units" of the account after a use charged as c
 unfoldable pub billed-after : State → Units → Units
 billed-after a c = a .billed ⊕ billed-of (a .plan) (a .monthly) (billable (a .place) c)
 
+-- the units of such a use that bear a surcharge
 unfoldable pub newly-surcharged : State → Units → Units
 newly-surcharged a c = surcharged-units (a .services) (a .allowance) (a .roamed) (roaming (a .place) c)
 
+-- "sums of cap × surcharged units" after it: "cap × units is added up over the records"
 unfoldable pub basis-after : State → Units → Units
 basis-after a c = a .basis ⊕ caps-on (a .day) ⊗ newly-surcharged a c
 
--- home charges and surcharges over the account's life
+-- home charges "over the account's life" after it
 unfoldable pub home-after : State → Units → ℕ
 home-after a c = home-charges-of (a .plan) (billed-after a c)
 
+-- surcharges after it, "likewise"
 unfoldable pub extra-after : State → Units → ℕ
 extra-after a c = surcharges-of (basis-after a c)
 

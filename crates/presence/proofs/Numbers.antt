@@ -5,9 +5,9 @@ use mathlib.Core.Bool.{Bool, true, false, cond, _&&_}
 use mathlib.Core.List.{List, [], _∷_, _++_}
 use native.Mathlib.Omega.{arith}
 use lib.Dec.{eqb, leb, lit≤}
-use borrow.Author.Tests.{le-leb, lt-leb}
-use lib.ListN.{getD, drop, take, length, replicate}
-use lib.Seq.{getD-take, getD-drop, drop-drop, take-nil, length-take-le}
+use borrow.Author.Tests.{le-leb, lt-leb, leb-true}
+use lib.ListN.{getD, drop, take, length, length-drop, replicate}
+use lib.Seq.{getD-take, getD-drop, drop-drop, take-nil, take-add, take-all, length-take-le}
 use Rattle.tariff.specs.Units.{each}
 use Rattle.tariff.proofs.Tests.{and-left, and-right}
 use Rattle.presence.specs.declared.Day.{Day}
@@ -159,3 +159,53 @@ marks-joined d xs e =
 pub marks-empty : marks-proper 123 (replicate 1599 0) ≡ true
 unfolding marks-proper
 marks-empty = refl
+
+-- proper marks are told by the three marks
+marks-back : (m : ℕ) → m ≤ 7 → cond (eqb (m % 2) 1) 1 0 + 2 * cond (eqb (m / 2 % 2) 1) 1 0 + 4 * cond (eqb (m / 4 % 2) 1) 1 0 ≡ m
+marks-back zero h = refl
+marks-back (suc zero) h = refl
+marks-back (suc (suc zero)) h = refl
+marks-back (suc (suc (suc zero))) h = refl
+marks-back (suc (suc (suc (suc zero)))) h = refl
+marks-back (suc (suc (suc (suc (suc zero))))) h = refl
+marks-back (suc (suc (suc (suc (suc (suc zero)))))) h = refl
+marks-back (suc (suc (suc (suc (suc (suc (suc zero))))))) h = refl
+marks-back (suc (suc (suc (suc (suc (suc (suc (suc m)))))))) h = absurd (omega arith)
+
+front-back : (xs : List ℕ) → 13 ≤ length xs → getD xs 0 0 ≤ 7 → numbers-of (day-from xs) ≡ take 13 xs
+unfolding numbers-of day-from
+front-back [] q p = absurd (omega arith)
+front-back (a ∷ []) q p = absurd (omega arith)
+front-back (a ∷ b ∷ []) q p = absurd (omega arith)
+front-back (a ∷ b ∷ c ∷ []) q p = absurd (omega arith)
+front-back (a ∷ b ∷ c ∷ d ∷ []) q p = absurd (omega arith)
+front-back (a ∷ b ∷ c ∷ d ∷ e ∷ []) q p = absurd (omega arith)
+front-back (a ∷ b ∷ c ∷ d ∷ e ∷ f ∷ []) q p = absurd (omega arith)
+front-back (a ∷ b ∷ c ∷ d ∷ e ∷ f ∷ g ∷ []) q p = absurd (omega arith)
+front-back (a ∷ b ∷ c ∷ d ∷ e ∷ f ∷ g ∷ h ∷ []) q p = absurd (omega arith)
+front-back (a ∷ b ∷ c ∷ d ∷ e ∷ f ∷ g ∷ h ∷ i ∷ []) q p = absurd (omega arith)
+front-back (a ∷ b ∷ c ∷ d ∷ e ∷ f ∷ g ∷ h ∷ i ∷ j ∷ []) q p = absurd (omega arith)
+front-back (a ∷ b ∷ c ∷ d ∷ e ∷ f ∷ g ∷ h ∷ i ∷ j ∷ k ∷ []) q p = absurd (omega arith)
+front-back (a ∷ b ∷ c ∷ d ∷ e ∷ f ∷ g ∷ h ∷ i ∷ j ∷ k ∷ l ∷ []) q p = absurd (omega arith)
+front-back (a ∷ b ∷ c ∷ d ∷ e ∷ f ∷ g ∷ h ∷ i ∷ j ∷ k ∷ l ∷ m ∷ xs) q p = ap (λ (n : ℕ). n ∷ b ∷ c ∷ d ∷ e ∷ f ∷ g ∷ h ∷ i ∷ j ∷ k ∷ l ∷ m ∷ []) (marks-back a p)
+
+-- the numbers of days, one after the other
+pub numbers-all : List Day → List ℕ
+numbers-all [] = []
+numbers-all (d ∷ ds) = numbers-of d ++ numbers-all ds
+
+first-back : (n : ℕ) (xs : List ℕ) → 13 * n ≤ length xs → marks-proper n xs ≡ true → numbers-all (days-first n xs) ≡ take (13 * n) xs
+unfolding numbers-all days-first marks-proper
+first-back zero xs h e = refl
+first-back (suc n) xs h e =
+    let t = leb (getD xs 0 0) 7 in
+    let k : 13 * suc n ≡ 13 + 13 * n = omega arith in
+    let l : 13 * n ≤ length (drop 13 xs) = omega (arith, length-drop 13 xs) in
+    rw
+    (k, front-back xs (omega arith) (leb-true _ _ (and-left t _ e)), first-back n (drop 13 xs) l (and-right t _ e))
+    (sym (take-add 13 (13 * n) xs))
+
+-- where marks are proper, the numbers are those of the days: so no two such logs stand for the same days
+pub numbers-back : (xs : List ℕ) → length xs ≡ 1599 → marks-proper 123 xs ≡ true → numbers-all (days-of xs) ≡ xs
+unfolding days-of
+numbers-back xs h e = first-back 123 xs (omega (arith, h)) e ∙ take-all 1599 xs (omega (arith, h))

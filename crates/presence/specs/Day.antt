@@ -13,6 +13,7 @@ use Rattle.presence.specs.declared.Day.{Day}
 use Rattle.presence.specs.declared.DayKind.{DayKind}
 use Rattle.presence.specs.declared.DayKind.the-variants.{HomeDay, ZoneDay, OffDay}
 
+-- is this place "zone (EU/EEA abroad)"?
 abbrev pub in-zone : Location → Bool
 in-zone Nowhere = false
 in-zone (At Home) = false
@@ -52,12 +53,13 @@ pub record DayAdds (d : Day) (u : Units) : Type 0 where
 unfoldable pub counts-as : Day → DayKind
 counts-as d = cond (d .home || d .elsewhere) HomeDay (cond (d .zone) ZoneDay OffDay)
 
--- 1 for a zone day, else 0
+-- 1 for a zone day, else 0, by what the day counts as
 abbrev pub one-if-zone : DayKind → ℕ
 one-if-zone HomeDay = 0
 one-if-zone ZoneDay = 1
 one-if-zone OffDay = 0
 
+-- "zone days": 1 for a day that is one, else 0
 unfoldable pub zone-day : Day → ℕ
 zone-day d = one-if-zone (counts-as d)
 

@@ -1,4 +1,5 @@
--- What the code's own helpers ask and answer: sums held at a ceiling, and sums of a window. No rule of 01 stands here. Assumes nothing.
+-- What the code's own helpers ask and answer: sums held at a ceiling, and sums of a window. Numbers of 01 that recur here (123, 15, 62, 8) are tied to its rules
+-- by the contract of `services_next`. Assumes nothing.
 use Prim.Native.Nat.{ℕ, zero, suc, _+_, _≤_, min}
 use mathlib.Core.Path.{_≡_}
 use mathlib.Core.List.{List}
@@ -20,10 +21,11 @@ use Rattle.presence.specs.Service.{state-step}
 abbrev pub held : Units → Units
 held u = each (min (u .kb) 1000000000001) (min (u .outgoing) 1000000000001) (min (u .incoming) 1000000000001) (min (u .sms) 1000000000001)
 
--- a day's units and those of the first n days, each number held
+-- a day's units, each number held
 abbrev pub held-day : Day → Units
 held-day d = held (d .athome) ⊕ held (d .inzone) ⊕ held (d .outside)
 
+-- the same of the first n days
 unfoldable pub held-over : ℕ → List Day → Units
 held-over zero ds = zero-units
 held-over (suc n) ds = held-day (getD ds n empty-day) ⊕ held-over n ds
@@ -32,6 +34,7 @@ held-over (suc n) ds = held-day (getD ds n empty-day) ⊕ held-over n ds
 abbrev pub Roomy : Units → Type 0
 Roomy u = AtMost u (each 1000000000000000 1000000000000000 1000000000000000 1000000000000000)
 
+-- no kind above the ceiling
 abbrev pub Low : Units → Type 0
 Low u = AtMost u (each 1000000000001 1000000000001 1000000000001 1000000000001)
 
@@ -57,6 +60,7 @@ sums-with s d = record {
   othersms = other-units SmsService d + s .othersms;
 }
 
+-- the sums of both windows, with n days logged
 abbrev pub both-windows : ℕ → List Day → Windows
 both-windows n ds = record { long = window-sums (min 123 n) ds; short = window-sums (min 15 n) ds }
 

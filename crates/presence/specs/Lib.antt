@@ -1,5 +1,5 @@
 pub mod Day
+pub mod Log
 pub mod Window
 pub mod Service
-pub mod Log
 pub mod Held

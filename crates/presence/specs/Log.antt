@@ -39,11 +39,12 @@ unfoldable pub days-first : ℕ → List ℕ → List Day
 days-first zero xs = []
 days-first (suc n) xs = day-from xs ∷ days-first n (drop 13 xs)
 
--- the days of a log, newest first
+-- the 123 places of a log as days, newest first; the first `logged` of them are 01's log
 unfoldable pub days-of : List ℕ → List Day
 days-of xs = days-first 123 xs
 
--- "today joins the log of the last 123 days (older ones drop)", in the numbers that are kept
+-- "today joins the log of the last 123 days (older ones drop)", in the numbers that are kept. Their days are then those of `joined`, and an empty log's are
+-- empty days (`days-joined`, `days-empty` in proofs/Numbers).
 unfoldable pub logged-with : Day → List ℕ → List ℕ
 logged-with d xs = take 1599 (numbers-of d ++ xs)
 
@@ -56,6 +57,7 @@ units-over (suc n) ds = day-units (getD ds n empty-day) ⊕ units-over n ds
 abbrev pub blank : Day → Bool
 blank d = not (d .home) && not (d .zone) && not (d .elsewhere) && no-units (d .athome) && no-units (d .inzone) && no-units (d .outside)
 
+-- no place of these holds a day
 unfoldable pub all-blank : List Day → Bool
 all-blank [] = true
 all-blank (d ∷ ds) = blank d && all-blank ds
@@ -64,7 +66,7 @@ all-blank (d ∷ ds) = blank d && all-blank ds
 abbrev pub lifetime-most : Units
 lifetime-most = each 1000000000000 1000000000000 1000000000000 1000000000000
 
--- the marks of each of the first n days are a number from 0 to 7, so that the numbers hold the days and nothing else
+-- the marks of each of the first n days are a number from 0 to 7, so that the numbers are those of the days (`numbers-back` in proofs/Numbers)
 unfoldable pub marks-proper : ℕ → List ℕ → Bool
 marks-proper zero xs = true
 marks-proper (suc n) xs = leb (getD xs 0 0) 7 && marks-proper n (drop 13 xs)

@@ -39,6 +39,7 @@ prevalent s w need n ds = prevailing need (sum-days zone-day (min w n) ds) (sum-
 unfoldable pub prevalent-long : Service → ℕ → List Day → Bool
 prevalent-long s n ds = prevalent s 123 62 n ds
 
+-- the same over 15 days
 unfoldable pub prevalent-short : Service → ℕ → List Day → Bool
 prevalent-short s n ds = prevalent s 15 8 n ds
 
@@ -54,11 +55,13 @@ window-sums w ds = record {
   othersms = sum-days (other-units SmsService) w ds;
 }
 
+-- zone units of a service among the sums
 abbrev pub sums-zone : Service → Sums → ℕ
 sums-zone DataService s = s .zonekb
 sums-zone CallService s = s .zonecalls
 sums-zone SmsService s = s .zonesms
 
+-- other units of a service among the sums
 abbrev pub sums-other : Service → Sums → ℕ
 sums-other DataService s = s .otherkb
 sums-other CallService s = s .othercalls

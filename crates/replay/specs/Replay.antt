@@ -44,31 +44,37 @@ abbrev pub answer-by : Verdict → Answer → Answer
 answer-by Accepted x = x
 answer-by (Refused n) x = Declined n
 
+-- a call on an account: its answer, and the account
 unfoldable pub applied : Account → Call → Applied
 applied a c = record { answer = answer-by (verdict a c) (accepted-answer a c); account = step a c }
 
--- the answers of Use and of Afford, and 1 for a refusal, else 0
+-- the answer of a use
 abbrev pub from-use : UseAnswer → Answer
 from-use (Take.Charged c) = Charged c
 from-use (Take.Declined n) = Declined n
 
+-- the answer of Afford
 abbrev pub from-afford : AffordAnswer → Answer
 from-afford (Ask.UpTo n) = UpTo n
 from-afford (Ask.Withheld n) = Declined n
 
--- the same with all of the account but its log
+-- the same with all of the account but its log: of a registration, a top-up or a day change
 abbrev pub applied-plainly : StateAnswered → StateApplied
 applied-plainly r = record { answer = answer-by (r .answer) Done; state = r .state }
 
+-- of a use
 abbrev pub applied-use : StateUsed → StateApplied
 applied-use r = record { answer = from-use (r .answer); state = r .state }
 
+-- of Afford, which changes nothing
 abbrev pub applied-afford : State → AffordAnswer → StateApplied
 applied-afford s x = record { answer = from-afford x; state = s }
 
+-- of any call
 abbrev pub applied-state : Applied → StateApplied
 applied-state x = record { answer = x .answer; state = x .account .state }
 
+-- 1 for a refusal, else 0
 abbrev pub count-refused : Answer → ℕ
 count-refused Done = 0
 count-refused (Charged c) = 0
@@ -79,9 +85,11 @@ count-refused (Declined n) = 1
 unfoldable pub register-code : ℕ → Coded
 register-code n = cond (eqb n 0) (Known (Register Home)) (cond (eqb n 1) (Known (Register Zone)) (cond (eqb n 2) (Known (Register Elsewhere)) Unknown))
 
+-- codes 6 and 7
 unfoldable pub other-code : ℕ → ℕ → Coded
 other-code c n = cond (eqb c 6) (Known (TopUp n)) (cond (eqb c 7 && eqb n 0) (Known NextDay) Unknown)
 
+-- all codes
 unfoldable pub coded : ℕ → ℕ → Coded
 coded c n =
     cond (eqb c 1) (register-code n)
@@ -122,5 +130,6 @@ replay-step t Unknown = record { account = t .account; refused = t .refused + 1 
 abbrev pub replayed-of : Progress → List ℕ → Replayed
 replayed-of t l = record { account = account-of (t .state) l; refused = t .refused }
 
+-- all but the log, and the count
 abbrev pub progress-of : Replayed → Progress
 progress-of t = record { state = t .account .state; refused = t .refused }

@@ -35,6 +35,7 @@ unfoldable pub report-on : List ℕ → Read → Report
 report-on f (Told.Trip p n) = Lines (figures-of (replay-of (open-answer p .account) (codes-of (calls-of f)) (numbers-of (calls-of f))))
 report-on f (Told.Refused n) = Refused n
 
+-- what is printed of a file's bytes
 unfoldable pub report-of : List ℕ → Report
 report-of f = report-on f (read-of f)
 

@@ -27,6 +27,6 @@ unfoldable pub caps-from : List Row → Units → ℕ → Units
 caps-from [] found d = found
 caps-from (r ∷ rs) found d = caps-from rs (cond (leb (r .first) d) (r .caps) found) d
 
--- the caps of a day; before day 181, on which no account stands, those of the first row
+-- the caps of a day; "The last row runs to day 3833". No account stands before day 181, where it gives the first row's, or after day 3833, where it gives the last row's
 unfoldable pub caps-on : ℕ → Units
 caps-on d = caps-from cap-rows (each 20000 220 55 40) d

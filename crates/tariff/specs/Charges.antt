@@ -45,6 +45,7 @@ pub record PriceFits (p : Plan) (u : Units) : Type 0 where
   pub seconds : u .outgoing ≤ 1000000000000
   pub messages : u .sms ≤ 1000000000000
 
+-- the same for the sums of cap × units
 pub record BasisFits (u : Units) : Type 0 where
   pub kb : u .kb ≤ 1000000000000000000
   pub outgoing : u .outgoing ≤ 1000000000000000000

@@ -15,10 +15,25 @@ use Rattle.tariff.specs.declared.PlanAnswer.{PlanAnswer}
 use Rattle.tariff.specs.declared.PlanAnswer.the-variants.{Granted, Declined}
 use Rattle.tariff.specs.Tests.{all, between, Reason, because, verdict-of}
 
+-- "Prepaid; bundle with V kB included a month; bundle without volume limit": is it the first?
 abbrev pub is-prepaid : Form → Bool
 is-prepaid Prepaid = true
 is-prepaid Bundle = false
 is-prepaid Unlimited = false
+
+-- "Home prices per GB, outgoing minute and SMS: 0 to 1,000,000 points"
+unfoldable pub prices-in-range : Plan → Bool
+prices-in-range p = leb (p .pergb) 1000000 && leb (p .perminute) 1000000 && leb (p .persms) 1000000
+
+-- "Bundles: fee 0 to 10,000,000 points a month ...; V 1 to 1,073,741,824"
+unfoldable pub terms-in-range : Form → Plan → Bool
+terms-in-range Prepaid p = true
+terms-in-range Bundle p = leb (p .fee) 10000000 && between 1 (p .volume) 1073741824
+terms-in-range Unlimited p = leb (p .fee) 10000000
+
+-- "start day outside 181 to 3833", of which refusal 2 speaks: inside
+abbrev pub start-in-range : Plan → Bool
+start-in-range p = between 181 (p .start) 3833
 
 -- "Unused fields are 0": fee and V of a prepaid plan, data price and V without volume limit
 unfoldable pub unused-empty : Form → Plan → Bool
@@ -26,26 +41,31 @@ unused-empty Prepaid p = eqb (p .fee) 0 && eqb (p .volume) 0
 unused-empty Bundle p = true
 unused-empty Unlimited p = eqb (p .pergb) 0 && eqb (p .volume) 0
 
--- home prices: 0 to 1,000,000 points
-unfoldable pub prices-in-range : Plan → Bool
-prices-in-range p = leb (p .pergb) 1000000 && leb (p .perminute) 1000000 && leb (p .persms) 1000000
-
--- bundles: fee 0 to 10,000,000 points a month; V 1 to 1,073,741,824 kB
-unfoldable pub terms-in-range : Form → Plan → Bool
-terms-in-range Prepaid p = true
-terms-in-range Bundle p = leb (p .fee) 10000000 && between 1 (p .volume) 1073741824
-terms-in-range Unlimited p = leb (p .fee) 10000000
-
+-- the plan's ranges, of which refusal 1 speaks
 unfoldable pub plan-in-range : Plan → Bool
 plan-in-range p = all (unused-empty (p .form) p ∷ prices-in-range p ∷ terms-in-range (p .form) p ∷ [])
 
-abbrev pub start-in-range : Plan → Bool
-start-in-range p = between 181 (p .start) 3833
+-- "A bundle is open if it has no volume limit or fee × 1,048,576 < cap × V", at a data cap
+unfoldable pub open-bundle : Form → ℕ → ℕ → ℕ → Bool
+open-bundle Prepaid fee cap volume = false
+open-bundle Bundle fee cap volume = ltb (fee * 1048576) (cap * volume)
+open-bundle Unlimited fee cap volume = true
+
+-- L at opening and, of a bundle, on each month's first day: "Prepaid: L = R = 0 at first" (R in `opened-state`). "Open bundle: L = 2 × fee × 1,048,576 / cap. Other bundle: L is none."
+unfoldable pub plan-allowance : Plan → ℕ → Allowance
+plan-allowance p cap =
+    cond (is-prepaid (p .form)) (Kilobytes 0)
+    (cond (open-bundle (p .form) (p .fee) cap (p .volume)) (Kilobytes (2 * p .fee * 1048576 / cap)) NoLimit)
+
+-- L of a prepaid account that enters the zone or is topped up there: credit × 1,048,576 / cap
+unfoldable pub credit-allowance : ℕ → ℕ → Allowance
+credit-allowance credit cap = Kilobytes (credit * 1048576 / cap)
 
 -- "What each operation declines", Open: 1 plan outside its ranges; 2 start day outside 181 to 3833
 unfoldable pub plan-reasons : Plan → List Reason
 plan-reasons p = because 1 (not (plan-in-range p)) ∷ because 2 (not (start-in-range p)) ∷ []
 
+-- Open on a plan: accepted, or the first of these numbers whose reason holds
 unfoldable pub plan-verdict : Plan → Verdict
 plan-verdict p = verdict-of (plan-reasons p)
 
@@ -53,11 +73,13 @@ plan-verdict p = verdict-of (plan-reasons p)
 unfoldable pub form-of : ℕ → Form
 form-of w = cond (eqb w 0) Prepaid (cond (eqb w 1) Bundle Unlimited)
 
+-- the number of a form, as the writer puts it
 abbrev pub form-word : Form → ℕ
 form-word Prepaid = 0
 form-word Bundle = 1
 form-word Unlimited = 2
 
+-- the plan of a plan body's seven words
 abbrev pub plan-with : Terms → Plan
 plan-with t = record {
   form = form-of (t .form);
@@ -73,34 +95,21 @@ plan-with t = record {
 unfoldable pub terms-reasons : Terms → List Reason
 terms-reasons t = because 1 (ltb 2 (t .form)) ∷ plan-reasons (plan-with t)
 
+-- the plan, or the number that declines it
 abbrev pub plan-answer : Verdict → Plan → PlanAnswer
 plan-answer Accepted p = Granted p
 plan-answer (Refused n) p = Declined n
 
+-- what a plan body's words answer: refusals 1, 2, or the plan
 unfoldable pub plan-of : Terms → PlanAnswer
 plan-of t = plan-answer (verdict-of (terms-reasons t)) (plan-with t)
-
--- "A bundle is open if it has no volume limit or fee × 1,048,576 < cap × V", at a data cap
-unfoldable pub open-bundle : Form → ℕ → ℕ → ℕ → Bool
-open-bundle Prepaid fee cap volume = false
-open-bundle Bundle fee cap volume = ltb (fee * 1048576) (cap * volume)
-open-bundle Unlimited fee cap volume = true
-
--- L of a prepaid account that enters the zone or is topped up there: credit × 1,048,576 / cap
-unfoldable pub credit-allowance : ℕ → ℕ → Allowance
-credit-allowance credit cap = Kilobytes (credit * 1048576 / cap)
-
--- L at opening and, of a bundle, on each month's first day: "Prepaid: L = 0 at first. Open bundle: L = 2 × fee × 1,048,576 / cap. Other bundle: L is none."
-unfoldable pub plan-allowance : Plan → ℕ → Allowance
-plan-allowance p cap =
-    cond (is-prepaid (p .form)) (Kilobytes 0)
-    (cond (open-bundle (p .form) (p .fee) cap (p .volume)) (Kilobytes (2 * p .fee * 1048576 / cap)) NoLimit)
 
 -- what keeps these products within the machine's numbers
 pub record CreditFits (credit cap : ℕ) : Type 0 where
   pub money : credit ≤ 1000000000
   pub rate : 1 ≤ cap
 
+-- the same for a bundle's products
 pub record BundleFits (fee cap volume : ℕ) : Type 0 where
   pub money : fee ≤ 10000000
   pub rate : 1 ≤ cap

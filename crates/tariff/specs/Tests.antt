@@ -25,6 +25,7 @@ pub record Reason : Type 0 where
   pub number : ℕ
   pub holds : Bool
 
+-- a reason from its two parts
 abbrev pub because : ℕ → Bool → Reason
 because n b = record { number = n; holds = b }
 
@@ -33,6 +34,7 @@ unfoldable pub verdict-of : List Reason → Verdict
 verdict-of [] = Accepted
 verdict-of (r ∷ rs) = cond (r .holds) (Refused (r .number)) (verdict-of rs)
 
+-- "accepted if no reason ... holds"
 abbrev pub is-accepted : Verdict → Bool
 is-accepted Accepted = true
 is-accepted (Refused n) = false

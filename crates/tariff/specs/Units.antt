@@ -10,6 +10,7 @@ use Rattle.tariff.specs.declared.Kind.the-variants.{Data, Outgoing, Inco
 abbrev pub each : ℕ → ℕ → ℕ → ℕ → Units
 each d o i s = record { kb = d; outgoing = o; incoming = i; sms = s }
 
+-- no units of any kind
 abbrev pub zero-units : Units
 zero-units = each 0 0 0 0
 
@@ -55,8 +56,10 @@ pub record AtMost (u v : Units) : Type 0 where
 abbrev pub most-held : Units
 most-held = each 1000000000000000000 1000000000000000000 1000000000000000000 1000000000000000000
 
+-- u and v can be added
 abbrev pub Adds : Units → Units → Type 0
 Adds u v = AtMost (u ⊕ v) most-held
 
+-- u and v can be multiplied
 abbrev pub Multiplies : Units → Units → Type 0
 Multiplies u v = AtMost (u ⊗ v) most-held

@@ -33,6 +33,7 @@ pub struct Units {
     pub sms: u64,
 }
 
+// Kinds of use: data in kB, MMS included; outgoing and incoming seconds; SMS sent.
 pub enum Kind {
     Data,
     Outgoing,
@@ -40,6 +41,7 @@ pub enum Kind {
     Sms,
 }
 
+// Places: home; the zone, which is the EU/EEA abroad; elsewhere.
 pub enum Place {
     Home,
     Zone,

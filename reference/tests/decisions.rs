@@ -1,4 +1,4 @@
-//! The readings of open points, by their numbers.
+//! Open points of the paper, as docs/DECISIONS.md decides them.
 
 mod common;
 use common::*;
@@ -13,7 +13,7 @@ fn next_days(account: &mut Account, count: usize) {
 }
 
 #[test]
-fn reading_1_a_prepaid_limit_stays_over_months_and_cap_changes() {
+fn a_prepaid_limit_stays_over_months_and_cap_changes() {
     let mut account = open(prepaid(1460, 0, 0, 0));
     run(&mut account, &[Call::TopUp(13_000), zone(), data(7)]);
     next_days(&mut account, 1);
@@ -21,7 +21,7 @@ fn reading_1_a_prepaid_limit_stays_over_months_and_cap_changes() {
 }
 
 #[test]
-fn reading_2_and_3_a_bundle_turns_with_the_new_days_cap() {
+fn a_bundle_turns_with_the_new_days_cap() {
     let mut account = open(bundle(1450, 0, 12_000, GB as u32));
     let first = 2 * 12_000 * GB / 13_000;
     assert_eq!(account.l, Some(first));
@@ -35,7 +35,7 @@ fn reading_2_and_3_a_bundle_turns_with_the_new_days_cap() {
 }
 
 #[test]
-fn reading_4_registering_again_in_the_zone_sets_nothing() {
+fn registering_again_in_the_zone_sets_nothing() {
     let mut account = open(prepaid(1460, 10_000, 0, 0));
     run(&mut account, &[Call::TopUp(13_000), zone(), data(GB / 2)]);
     next_days(&mut account, 1);
@@ -46,7 +46,7 @@ fn reading_4_registering_again_in_the_zone_sets_nothing() {
 }
 
 #[test]
-fn reading_5_leaving_keeps_l_and_r_and_entering_renews_them() {
+fn leaving_keeps_l_and_r_and_entering_renews_them() {
     let mut account = open(prepaid(1461, 10_000, 0, 0));
     assert_eq!((account.l, account.r), (Some(0), 0));
     run(&mut account, &[Call::TopUp(11_000), zone(), data(GB / 2)]);
@@ -59,7 +59,7 @@ fn reading_5_leaving_keeps_l_and_r_and_entering_renews_them() {
 }
 
 #[test]
-fn reading_6_top_ups_move_the_limit_of_a_prepaid_account_in_the_zone_only() {
+fn top_ups_move_the_limit_of_a_prepaid_account_in_the_zone_only() {
     let mut account = open(prepaid(1461, 0, 0, 0));
     account.top_up(500).unwrap();
     assert_eq!((account.l, account.today), (Some(0), Day::default()));
@@ -77,7 +77,7 @@ fn reading_6_top_ups_move_the_limit_of_a_prepaid_account_in_the_zone_only() {
 }
 
 #[test]
-fn reading_7_a_day_without_registration_or_use_is_off() {
+fn a_day_without_registration_or_use_is_off() {
     let mut account = open(prepaid(1461, 0, 0, 0));
     run(&mut account, &[zone(), Call::NextDay]);
     assert_eq!(account.place, Some(Place::Zone));
@@ -89,7 +89,7 @@ fn reading_7_a_day_without_registration_or_use_is_off() {
 }
 
 #[test]
-fn reading_8_limits_none_and_0() {
+fn limits_none_and_0() {
     let mut closed = open(bundle(1461, 0, 11_000, GB as u32));
     run(&mut closed, &[zone()]);
     assert_eq!(closed.apply(data(5 * GB)), used(0, 0, 0, false));
@@ -101,7 +101,7 @@ fn reading_8_limits_none_and_0() {
 }
 
 #[test]
-fn reading_9_and_10_notice_at_exactly_l_and_split_records() {
+fn notice_at_exactly_l_and_split_records() {
     let plan = unlimited(1461, 11_000);
     let mut account = open(plan);
     run(&mut account, &[Call::TopUp(100_000), zone()]);
@@ -116,7 +116,7 @@ fn reading_9_and_10_notice_at_exactly_l_and_split_records() {
 }
 
 #[test]
-fn reading_10_and_11_v_and_l_crossed_in_one_record() {
+fn v_and_l_crossed_in_one_record() {
     let mut account = open(bundle(1461, 1000, 11_000, 3 * GB as u32));
     assert_eq!(account.l, Some(2 * GB));
     run(&mut account, &[Call::TopUp(100_000), zone()]);
@@ -127,7 +127,7 @@ fn reading_10_and_11_v_and_l_crossed_in_one_record() {
 }
 
 #[test]
-fn reading_12_h_grows_for_bundles_at_home_and_in_the_zone() {
+fn h_grows_for_bundles_at_home_and_in_the_zone() {
     for (plan, wanted) in [
         (bundle(1461, 0, 0, 5), 3),
         (unlimited(1461, 0), 3),
@@ -141,7 +141,7 @@ fn reading_12_h_grows_for_bundles_at_home_and_in_the_zone() {
 }
 
 #[test]
-fn reading_13_and_14_incoming_and_elsewhere_bear_no_home_price() {
+fn incoming_and_elsewhere_bear_no_home_price() {
     let mut account = open(prepaid(1461, 1000, 1000, 1000));
     run(&mut account, &[elsewhere()]);
     for kind in Kind::ALL {
@@ -187,7 +187,7 @@ fn day_of(marks: [bool; 3], kind: Kind, units: [u64; 3]) -> Day {
 }
 
 #[test]
-fn reading_17_units_count_whatever_the_day_counts_as() {
+fn units_count_whatever_the_day_counts_as() {
     let zone_day = day_of([false, true, false], Kind::Sms, [0, 1, 0]);
     let mixed = day_of([true, true, false], Kind::Sms, [0, 0, 62]);
     let mut log: Log = vec![zone_day; 62].into();
@@ -209,7 +209,7 @@ fn units_of_calls_by_place() {
 }
 
 #[test]
-fn reading_18_and_20_warned_counts_and_one_step_a_day() {
+fn warned_counts_and_one_step_a_day() {
     let zone_day = day_of([false, true, false], Kind::Data, [0, 1, 0]);
     let log: Log = vec![zone_day; 123].into();
     let mut state = State::Clear;
@@ -230,7 +230,7 @@ fn reading_18_and_20_warned_counts_and_one_step_a_day() {
 }
 
 #[test]
-fn reading_19_and_21_short_logs_and_no_units() {
+fn short_logs_and_no_units() {
     let zone_day = day_of([false, true, false], Kind::Data, [0, 1, 0]);
     let mut log: Log = vec![zone_day; 122].into();
     assert!(prevalent(&log, 123, Service::Data));
