@@ -1,0 +1,7 @@
+//! What `./test` needs besides the toolchain: the runner of edits and the check of the list of claims.
+pub mod claims;
+pub mod edit;
+pub mod folder;
+pub mod list;
+pub mod runner;
+pub mod verdict;
