@@ -1,10 +1,12 @@
 -- 01, "Figures": the eleven marked figures, as one table of tests over the definitions that the contracts cite. Assumes nothing.
 use Prim.Native.Nat.{ℕ}
+use mathlib.Core.Path.{_≡_}
 use mathlib.Core.Bool.{Bool, true, false, not}
 use mathlib.Core.List.{List, [], _∷_, _++_}
 use lib.Dec.{eqb}
 use lib.ListN.{replicate}
 use Rattle.tariff.specs.declared.Units.{Units}
+use Rattle.tariff.specs.Tests.{all}
 use Rattle.tariff.specs.declared.Form.{Form}
 use Rattle.tariff.specs.declared.Form.the-variants.{Prepaid, Bundle, Unlimited}
 use Rattle.tariff.specs.declared.Plan.{Plan}
@@ -61,3 +63,7 @@ figures =
     ∷ eqb (caps-on 1460 .kb) 13000
     ∷ eqb (caps-on 1461 .kb) 11000
     ∷ []
+
+-- 01, "Questions to put to a promise": each marked figure holds of the definitions, all in one statement
+abbrev pub FiguresHold : Type 0
+FiguresHold = all figures ≡ true
