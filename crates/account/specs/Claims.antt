@@ -25,7 +25,7 @@ AffordChangesNothing = (a : Account) (k : Kind) → step a (Afford k) ≡ a
 abbrev pub RefusedChangesNothing : Type 0
 RefusedChangesNothing = (a : Account) (c : Call) → accepts a c ≡ false → step a c ≡ a
 
--- Open hands out a sound account where it accepts, and where it refuses one on which every call is refused with 0
+-- Open hands out a sound account where it accepts, and one that is not sound where it refuses, so that every call on that one is refused with 0
 pub record OpensSound (p : Plan) : Type 0 where
   pub taken : open-answer p .answer ≡ Accepted → sound (open-answer p .account) ≡ true
   pub refused : (n : ℕ) → open-answer p .answer ≡ Refused n → sound (open-answer p .account) ≡ false

@@ -10,4 +10,4 @@ use Rattle.figures.specs.Figures.{figures, FiguresHold}
 
 pub figures-hold : FiguresHold
 unfolding all figures caps-on caps-from open-bundle credit-allowance plan-allowance home-charges-of zone-day counts-as sum-days prevalent prevalent-long
-figures-hold = refl
+figures-hold = record { eleven = refl; hold = refl }

@@ -4,7 +4,7 @@ use mathlib.Core.Path.{_≡_}
 use mathlib.Core.Bool.{Bool, true, false, not}
 use mathlib.Core.List.{List, [], _∷_, _++_}
 use lib.Dec.{eqb}
-use lib.ListN.{replicate}
+use lib.ListN.{length, replicate}
 use Rattle.tariff.specs.declared.Units.{Units}
 use Rattle.tariff.specs.Tests.{all}
 use Rattle.tariff.specs.declared.Form.{Form}
@@ -65,5 +65,6 @@ figures =
     ∷ []
 
 -- 01, "Questions to put to a promise": each marked figure holds of the definitions, all in one statement
-abbrev pub FiguresHold : Type 0
-FiguresHold = all figures ≡ true
+pub record FiguresHold : Type 0 where
+  pub eleven : length figures ≡ 11
+  pub hold : all figures ≡ true

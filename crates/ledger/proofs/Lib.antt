@@ -5,3 +5,4 @@ pub mod Days
 pub mod Book
 pub mod Claims
 pub mod Lengths
+pub mod Example

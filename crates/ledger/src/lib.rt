@@ -1,5 +1,6 @@
 // Lists of calls and the book: claims about whole lists of calls, stated in specs/Demand3.antt.
 ghost use Rattle.ledger.specs.Demand3.{Demand3, MatchesFromSound, SoundStaysSound, OneMoreThanCuts};
+ghost use Rattle.ledger.specs.Example.{EndIsNotEnough};
 
 // Demand 3: two accounts opened alike match exactly when their stretches do, and the book shows each account's money.
 pub fn demand_3()
@@ -20,3 +21,9 @@ pub fn sound_stays_sound()
 pub fn one_more_than_cuts()
     ensures { λ _. ⌜ OneMoreThanCuts ⌝ }
 {}
+
+// Equal accounts at the end say nothing of the stretches: two lists that show it.
+pub fn end_is_not_enough()
+    ensures { λ _. ⌜ EndIsNotEnough ⌝ }
+{
+}

@@ -128,7 +128,8 @@ pub fn is_once(file: &[u8], kind: u32) -> bool
     times_among(file, kind, count) == 1
 }
 
-// The part of such a file that its one entry of the kind names.
+// The part of such a file that its one entry of the kind names: the bytes, and where they lie. A reference's `ptr` is the
+// piece of memory that it refers to and the place in it, so the part is the caller's own file.
 pub fn part(file: &[u8], kind: u32) -> &[u8]
     requires { ⌜ (is-accepted (file-verdict (now file)) ≡ true) × (just-once (now file) kind ≡ true) ⌝ }
     ensures bytes { λ r. ⌜ now r ≡ part-of (now (file .entry)) kind ⌝ }
