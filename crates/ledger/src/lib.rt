@@ -25,5 +25,4 @@ pub fn one_more_than_cuts()
 // Equal accounts at the end say nothing of the stretches: two lists that show it.
 pub fn end_is_not_enough()
     ensures { λ _. ⌜ EndIsNotEnough ⌝ }
-{
-}
+{}
