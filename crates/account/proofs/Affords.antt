@@ -18,7 +18,8 @@ use Rattle.account.specs.declared.Afforded.{Afforded}
 use Rattle.account.specs.declared.Call.the-variants.{Use, Afford}
 use Rattle.account.specs.Whole.{sound}
 use Rattle.account.specs.Calls.{own-reasons, reasons, verdict, accepts, after, step}
-use Rattle.account.specs.Answers.{afford-of, afford-result, Affordable}
+use Rattle.account.specs.Answers.{afford-of, afford-result}
+use Rattle.account.specs.Claims.{AffordIsLargest, AffordChangesNothing}
 
 pub afford-unsound : (a : Account) (k : Kind) → sound a ≡ false → _≡_ {A = Afforded} (record { answer = Withheld 0; account = a }) (afford-result a k)
 unfolding afford-result verdict reasons verdict-of step accepts
@@ -53,7 +54,7 @@ refused-many a k n h = rw (lt-leb n 1000000000 h, and-false (leb 1 n)) (go (soun
     go true false = refl
     go false c = refl
 
-pub afford-is-largest : (a : Account) (k : Kind) → Affordable a k (afford-of a k)
+pub afford-is-largest : AffordIsLargest
 unfolding afford-of
 afford-is-largest a k = record { passes = largest-passes (λ n. accepts a (Use k n)) 1000000000; none-larger = λ m h. go m h (leb m 1000000000) refl }
   where
@@ -65,7 +66,7 @@ same : (b : Bool) (a : Account) → cond b a a ≡ a
 same true a = refl
 same false a = refl
 
-pub afford-keeps : (a : Account) (k : Kind) → step a (Afford k) ≡ a
+pub afford-keeps : AffordChangesNothing
 unfolding step after
 afford-keeps a k = same (accepts a (Afford k)) a
 

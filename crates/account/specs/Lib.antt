@@ -1,3 +1,4 @@
 pub mod Whole
 pub mod Calls
 pub mod Answers
+pub mod Claims

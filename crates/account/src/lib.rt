@@ -1,4 +1,6 @@
 // The account, a value that each call takes and hands back with its answer: document 01, "Account and its calls".
+pub mod claims;
+
 use metering::State;
 use metering::StateUsed;
 use metering::UseAnswer;

@@ -1,4 +1,6 @@
 // The largest use that the account affords: document 01, "Account and its calls", Afford.
+pub mod claims;
+
 use metering::State;
 use tariff::Kind;
 ghost use mathlib.Core.Path.{_≡_};

@@ -1,4 +1,6 @@
 // The first days of the months, and the question whether a day is one of them. Day 0 is 1 January 2022.
+pub mod claims;
+
 ghost use mathlib.Core.Path.{_≡_};
 ghost use Prim.Native.Nat.{_<_};
 ghost use Rattle.calendar.specs.Calendar.{first-day, starts-month};

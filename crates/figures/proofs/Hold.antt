@@ -1,14 +1,13 @@
 -- The marked figures hold, by computation. Assumes nothing.
-use mathlib.Core.Path.{_≡_, refl}
-use mathlib.Core.Bool.{Bool, true}
+use mathlib.Core.Path.{refl}
 use Rattle.tariff.specs.Tests.{all}
 use Rattle.tariff.specs.Caps.{caps-on, caps-from}
 use Rattle.tariff.specs.Plan.{open-bundle, credit-allowance, plan-allowance}
 use Rattle.tariff.specs.Charges.{home-charges-of}
 use Rattle.presence.specs.Day.{zone-day, counts-as}
 use Rattle.presence.specs.Window.{sum-days, prevalent, prevalent-long}
-use Rattle.figures.specs.Figures.{figures}
+use Rattle.figures.specs.Figures.{figures, FiguresHold}
 
-pub figures-hold : all figures ≡ true
+pub figures-hold : FiguresHold
 unfolding all figures caps-on caps-from open-bundle credit-allowance plan-allowance home-charges-of zone-day counts-as sum-days prevalent prevalent-long
-figures-hold = refl
+figures-hold = record { eleven = refl; hold = refl }

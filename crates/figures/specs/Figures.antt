@@ -1,10 +1,12 @@
 -- 01, "Figures": the eleven marked figures, as one table of tests over the definitions that the contracts cite. Assumes nothing.
 use Prim.Native.Nat.{ℕ}
+use mathlib.Core.Path.{_≡_}
 use mathlib.Core.Bool.{Bool, true, false, not}
 use mathlib.Core.List.{List, [], _∷_, _++_}
 use lib.Dec.{eqb}
-use lib.ListN.{replicate}
+use lib.ListN.{length, replicate}
 use Rattle.tariff.specs.declared.Units.{Units}
+use Rattle.tariff.specs.Tests.{all}
 use Rattle.tariff.specs.declared.Form.{Form}
 use Rattle.tariff.specs.declared.Form.the-variants.{Prepaid, Bundle, Unlimited}
 use Rattle.tariff.specs.declared.Plan.{Plan}
@@ -61,3 +63,8 @@ figures =
     ∷ eqb (caps-on 1460 .kb) 13000
     ∷ eqb (caps-on 1461 .kb) 11000
     ∷ []
+
+-- 01, "Questions to put to a promise": each marked figure holds of the definitions, all in one statement
+pub record FiguresHold : Type 0 where
+  pub eleven : length figures ≡ 11
+  pub hold : all figures ≡ true

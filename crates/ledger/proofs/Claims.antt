@@ -1,4 +1,4 @@
--- Demand 3, and the match from any sound account. Assumes nothing.
+-- Demand 3, the match from any sound account, and that a sound one stays sound. Assumes nothing.
 use mathlib.Core.Path.{_≡_, refl, sym, _∙_, ap, subst}
 use mathlib.Core.Bool.{true}
 use mathlib.Core.List.{List, [], _∷_}
@@ -14,7 +14,7 @@ use Rattle.account.specs.Calls.{step}
 use Rattle.account.specs.Answers.{open-answer}
 use Rattle.account.proofs.Kept.{Sound, sound-tells, sound-passes, sound-step, sound-opened}
 use Rattle.ledger.specs.Lists.{run, accepted}
-use Rattle.ledger.specs.Demand3.{Demand3, MatchesFromSound, Matches, OpensAs, Shown, entries-of}
+use Rattle.ledger.specs.Demand3.{Demand3, MatchesFromSound, SoundStaysSound, Matches, OpensAs, Shown, entries-of}
 use Rattle.ledger.proofs.Match.{matching}
 use Rattle.ledger.proofs.Book.{balanced}
 
@@ -24,8 +24,8 @@ sound-run a [] s = s
 sound-run a (c ∷ cs) s = sound-run (step a c) cs (sound-step a c s)
 
 -- every account that a list leads to from a sound one is sound
-pub always-sound : (a : Account) (cs : List Call) → sound a ≡ true → sound (run a cs) ≡ true
-always-sound a cs s = sound-passes (run a cs) (sound-run a cs (sound-tells a s))
+pub sound-stays-sound : SoundStaysSound
+sound-stays-sound a s cs = sound-passes (run a cs) (sound-run a cs (sound-tells a s))
 
 -- an account that Open handed out is the newly opened one, and its plan was accepted
 opened-plan : (p : Plan) (a : Account) → OpensAs p a → plan-verdict p ≡ Accepted
@@ -57,5 +57,5 @@ demand-3 p a b e f xs ys =
     record {
       matched = subst (λ (z : Account). Matches a z xs ys) q (matches-from-sound a s xs ys);
       shown = subst (λ (z : Account). Shown p (run z xs) (entries-of p z xs)) x (balanced p xs);
-      stays-sound = always-sound a xs s;
+      stays-sound = sound-stays-sound a s xs;
     }

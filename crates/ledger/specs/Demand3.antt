@@ -4,6 +4,7 @@ use mathlib.Core.Path.{_≡_}
 use mathlib.Core.Bool.{Bool, true}
 use mathlib.Core.Logic.{_↔_}
 use mathlib.Core.List.{List}
+use lib.ListN.{length}
 use Rattle.tariff.specs.declared.Plan.{Plan}
 use Rattle.tariff.specs.declared.Verdict.the-variants.{Accepted}
 use Rattle.account.specs.declared.Account.{Account}
@@ -51,3 +52,16 @@ Demand3 = (p : Plan) (a b : Account) → OpensAs p a → OpensAs p b → (xs ys 
 -- the same match from any sound account; opening is a case
 abbrev pub MatchesFromSound : Type 0
 MatchesFromSound = (a : Account) → sound a ≡ true → (xs ys : List Call) → Matches a a xs ys
+
+-- a sound account stays sound through every list of calls
+abbrev pub SoundStaysSound : Type 0
+SoundStaysSound = (a : Account) → sound a ≡ true → (cs : List Call) → sound (run a cs) ≡ true
+
+-- a list has one stretch more than cuts, and one account for each cut and for the end
+pub record OneMore (a : Account) (cs : List Call) : Type 0 where
+  pub stretches : length (segments (accepted a cs)) ≡ length (boundaries (accepted a cs)) + 1
+  pub accounts : length (snapshots a cs) ≡ length (boundaries (accepted a cs)) + 1
+
+-- so the lists that a match compares are as long as each other where the cuts agree
+abbrev pub OneMoreThanCuts : Type 0
+OneMoreThanCuts = (a : Account) (cs : List Call) → OneMore a cs

@@ -1,1 +1,28 @@
-// Lists of calls and the book: definitions and the proof of demand 3, no code.
+// Lists of calls and the book: claims about whole lists of calls, stated in specs/Demand3.antt.
+ghost use Rattle.ledger.specs.Demand3.{Demand3, MatchesFromSound, SoundStaysSound, OneMoreThanCuts};
+ghost use Rattle.ledger.specs.Example.{EndIsNotEnough};
+
+// Demand 3: two accounts opened alike match exactly when their stretches do, and the book shows each account's money.
+pub fn demand_3()
+    ensures { λ _. ⌜ Demand3 ⌝ }
+{}
+
+// The match holds from any sound account.
+pub fn matches_from_sound()
+    ensures { λ _. ⌜ MatchesFromSound ⌝ }
+{}
+
+// A sound account stays sound through every list of calls.
+pub fn sound_stays_sound()
+    ensures { λ _. ⌜ SoundStaysSound ⌝ }
+{}
+
+// A list has one stretch more than it has cuts, and as many accounts to compare.
+pub fn one_more_than_cuts()
+    ensures { λ _. ⌜ OneMoreThanCuts ⌝ }
+{}
+
+// Equal accounts at the end say nothing of the stretches: two lists that show it.
+pub fn end_is_not_enough()
+    ensures { λ _. ⌜ EndIsNotEnough ⌝ }
+{}

@@ -3,3 +3,4 @@ pub mod Moves
 pub mod Use
 pub mod Reasons
 pub mod Needs
+pub mod Claims

@@ -1,4 +1,6 @@
 // All of the account but its log, and what each call makes of it: document 01, "Account and its calls" and "What each operation declines".
+pub mod claims;
+
 use presence::Day;
 use presence::Location;
 use presence::ServiceState;

@@ -12,7 +12,8 @@ use Rattle.tariff.specs.Units.{each}
 use Rattle.tariff.proofs.Tests.{and-left, and-right}
 use Rattle.presence.specs.declared.Day.{Day}
 use Rattle.presence.specs.Day.{empty-day, joined}
-use Rattle.presence.specs.Log.{numbers-of, day-from, days-first, days-of, logged-with, marks-proper}
+use Rattle.presence.specs.Log.{numbers-of, day-from, days-first, days-of, logged-with, marks-proper, numbers-all}
+use Rattle.presence.specs.Claims.{LogKeepsDays, NumbersAreOfDays}
 
 -- a day's numbers stand for the day
 pub day-back : (d : Day) (xs : List ℕ) → day-from (numbers-of d ++ xs) ≡ d
@@ -189,11 +190,6 @@ front-back (a ∷ b ∷ c ∷ d ∷ e ∷ f ∷ g ∷ h ∷ i ∷ j ∷ k ∷ []
 front-back (a ∷ b ∷ c ∷ d ∷ e ∷ f ∷ g ∷ h ∷ i ∷ j ∷ k ∷ l ∷ []) q p = absurd (omega arith)
 front-back (a ∷ b ∷ c ∷ d ∷ e ∷ f ∷ g ∷ h ∷ i ∷ j ∷ k ∷ l ∷ m ∷ xs) q p = ap (λ (n : ℕ). n ∷ b ∷ c ∷ d ∷ e ∷ f ∷ g ∷ h ∷ i ∷ j ∷ k ∷ l ∷ m ∷ []) (marks-back a p)
 
--- the numbers of days, one after the other
-pub numbers-all : List Day → List ℕ
-numbers-all [] = []
-numbers-all (d ∷ ds) = numbers-of d ++ numbers-all ds
-
 first-back : (n : ℕ) (xs : List ℕ) → 13 * n ≤ length xs → marks-proper n xs ≡ true → numbers-all (days-first n xs) ≡ take (13 * n) xs
 unfolding numbers-all days-first marks-proper
 first-back zero xs h e = refl
@@ -206,6 +202,9 @@ first-back (suc n) xs h e =
     (sym (take-add 13 (13 * n) xs))
 
 -- where marks are proper, the numbers are those of the days: so no two such logs stand for the same days
-pub numbers-back : (xs : List ℕ) → length xs ≡ 1599 → marks-proper 123 xs ≡ true → numbers-all (days-of xs) ≡ xs
+pub numbers-back : NumbersAreOfDays
 unfolding days-of
 numbers-back xs h e = first-back 123 xs (omega (arith, h)) e ∙ take-all 1599 xs (omega (arith, h))
+
+pub log-keeps-days : LogKeepsDays
+log-keeps-days = record { joins = days-joined; empty = days-empty }

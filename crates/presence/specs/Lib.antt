@@ -3,3 +3,4 @@ pub mod Log
 pub mod Window
 pub mod Service
 pub mod Held
+pub mod Claims

@@ -44,7 +44,7 @@ unfoldable pub days-of : List ℕ → List Day
 days-of xs = days-first 123 xs
 
 -- "today joins the log of the last 123 days (older ones drop)", in the numbers that are kept. Their days are then those of `joined`, and an empty log's are
--- empty days (`days-joined`, `days-empty` in proofs/Numbers).
+-- empty days (`LogKeepsDays` in specs/Claims).
 unfoldable pub logged-with : Day → List ℕ → List ℕ
 logged-with d xs = take 1599 (numbers-of d ++ xs)
 
@@ -66,7 +66,7 @@ all-blank (d ∷ ds) = blank d && all-blank ds
 abbrev pub lifetime-most : Units
 lifetime-most = each 1000000000000 1000000000000 1000000000000 1000000000000
 
--- the marks of each of the first n days are a number from 0 to 7, so that the numbers are those of the days (`numbers-back` in proofs/Numbers)
+-- the marks of each of the first n days are a number from 0 to 7, so that the numbers are those of the days (`NumbersAreOfDays` in specs/Claims)
 unfoldable pub marks-proper : ℕ → List ℕ → Bool
 marks-proper zero xs = true
 marks-proper (suc n) xs = leb (getD xs 0 0) 7 && marks-proper n (drop 13 xs)
@@ -74,3 +74,8 @@ marks-proper (suc n) xs = leb (getD xs 0 0) 7 && marks-proper n (drop 13 xs)
 -- "today's units with the log's are at most the lifetime units of their kind"; places past the n logged days hold nothing; marks are proper
 unfoldable pub log-within : List ℕ → Day → ℕ → Units → Bool
 log-within xs today n lifetime = all (fits (day-units today ⊕ units-over n (days-of xs)) lifetime ∷ all-blank (drop n (days-of xs)) ∷ marks-proper 123 xs ∷ [])
+
+-- the numbers of days, one day after the other
+unfoldable pub numbers-all : List Day → List ℕ
+numbers-all [] = []
+numbers-all (d ∷ ds) = numbers-of d ++ numbers-all ds

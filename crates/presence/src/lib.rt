@@ -1,4 +1,6 @@
 // A day's marks and units, the log of the last days, and what it makes of the services: document 01, "Account and its calls", Next day.
+pub mod claims;
+
 use tariff::Place;
 use tariff::Units;
 ghost use mathlib.Core.Path.{_≡_};

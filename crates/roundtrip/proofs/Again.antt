@@ -183,14 +183,14 @@ module _ (f : List ℕ) (k : ℕ) (t : Two f k) (low-form : word (part-of f 1) 0
 
 -- ---- the writer accepts what was read
 
-calls-accepted : (cs ns : List ℕ) (room : ℕ) → (length cs ≡ 0 → ⊥) → length cs ≤ 8184 → length ns ≡ length cs → calls-right (paired cs ns) ≡ true → file-size (length cs) ≤ room → verdict-of (calls-reasons cs ns room) ≡ Told.Accepted
+pub calls-accepted : (cs ns : List ℕ) (room : ℕ) → (length cs ≡ 0 → ⊥) → length cs ≤ 8184 → length ns ≡ length cs → calls-right (paired cs ns) ≡ true → file-size (length cs) ≤ room → verdict-of (calls-reasons cs ns room) ≡ Told.Accepted
 unfolding calls-reasons verdict-of
 calls-accepted cs ns room c d e g h = rw (ne-eqb (length cs) 0 c, le-leb (length cs) 8184 d, eq-eqb (length ns) (length cs) e, g, le-ltb room (file-size (length cs)) h)
 
-write-accepted : (p : Plan) (cs ns : List ℕ) (room : ℕ) → is-accepted (plan-verdict p) ≡ true → verdict-of (calls-reasons cs ns room) ≡ Told.Accepted → write-verdict p cs ns room ≡ Told.Accepted
+pub write-accepted : (p : Plan) (cs ns : List ℕ) (room : ℕ) → is-accepted (plan-verdict p) ≡ true → verdict-of (calls-reasons cs ns room) ≡ Told.Accepted → write-verdict p cs ns room ≡ Told.Accepted
 write-accepted p cs ns room a b = write-then p cs ns room ∙ (ap (λ (v : Verdict). then v (verdict-of (calls-reasons cs ns room))) (accepted-is (plan-verdict p) a) ∙ b)
 
-written-is : (p : Plan) (cs ns buf : List ℕ) → write-verdict p cs ns (length buf) ≡ Told.Accepted → written-of p cs ns buf ≡ Wrote.Bytes (file-size (length cs))
+pub written-is : (p : Plan) (cs ns buf : List ℕ) → write-verdict p cs ns (length buf) ≡ Told.Accepted → written-of p cs ns buf ≡ Wrote.Bytes (file-size (length cs))
 unfolding written-of
 written-is p cs ns buf h = ap (λ (v : Verdict). write-answer v (file-size (length cs))) h
 

@@ -1,3 +1,4 @@
 pub mod Made
 pub mod Back
 pub mod Again
+pub mod Keeps

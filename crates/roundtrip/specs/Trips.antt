@@ -1,5 +1,5 @@
 -- 01, "Trip file": the two round trips, of the definitions that the contracts of `read`, `write` and `find` cite. Assumes nothing.
-use Prim.Native.Nat.{ℕ, _≤_}
+use Prim.Native.Nat.{ℕ, _+_, _*_, _≤_}
 use mathlib.Core.Path.{_≡_}
 use mathlib.Core.List.{List, _++_}
 use lib.ListN.{length, take, drop}
@@ -42,3 +42,12 @@ ReadWritesAgain =
     (f buf : List ℕ) (p : Plan) (n : ℕ) → Bytes f → PlanThenCalls f
     → read-of f ≡ Trip p n → length f ≤ length buf
     → WritesAs p f buf
+
+-- plan and calls of a file f, written into a buffer, are accepted, and what then stands there reads as the same plan and calls
+pub record KeepsTrip (f buf : List ℕ) (p : Plan) (n : ℕ) : Type 0 where
+  pub answer : written-of p (codes-of (calls-of f)) (numbers-of (calls-of f)) buf ≡ Wrote.Bytes (64 + 8 * n)
+  pub again : ReadsAs (take (64 + 8 * n) (buffer-of p (codes-of (calls-of f)) (numbers-of (calls-of f)) buf)) p (codes-of (calls-of f)) (numbers-of (calls-of f))
+
+-- of every file that is read, whatever other sections it has and in whatever order
+abbrev pub ReadKeepsTrip : Type 0
+ReadKeepsTrip = (f buf : List ℕ) (p : Plan) (n : ℕ) → Bytes f → read-of f ≡ Trip p n → 64 + 8 * n ≤ length buf → KeepsTrip f buf p n

@@ -52,3 +52,16 @@ or-nothing (Refused n) part = []
 -- "that part of the caller's file itself, or an empty part where it is declined"
 unfoldable pub section-of : List ℕ → ℕ → List ℕ
 section-of f k = or-nothing (find-verdict f k) (part-of f k)
+
+-- where in the file the bytes that the entry of kind k names begin
+unfoldable pub part-start : List ℕ → ℕ → ℕ
+part-start f k = start-at f (entry-to f k (section-count f))
+
+-- where the part handed back begins, on a verdict: an empty one stands at the file's first byte
+abbrev pub or-first : Verdict → ℕ → ℕ
+or-first Accepted n = n
+or-first (Refused r) n = 0
+
+-- "that part of the caller's file itself": how many bytes from the file's first the part handed back begins
+unfoldable pub section-start : List ℕ → ℕ → ℕ
+section-start f k = or-first (find-verdict f k) (part-start f k)

@@ -6,7 +6,7 @@ ghost use lib.ListN.{length};
 ghost use lib.Dec.{eqb};
 ghost use Rattle.tariff.specs.Tests.{is-accepted};
 ghost use Rattle.sections.specs.Table.{length-right, sum-right, table-right, follow-to, body-start, section-count, file-verdict};
-ghost use Rattle.sections.specs.Find.{one-if, times-to, entry-to, just-once, part-of, find-verdict, section-of};
+ghost use Rattle.sections.specs.Find.{one-if, times-to, entry-to, just-once, part-of, part-start, find-verdict, section-of, section-start};
 use tariff::Verdict;
 
 // 10: is the length 12 to 65,536, a multiple of 4 and the first word?
@@ -128,10 +128,12 @@ pub fn is_once(file: &[u8], kind: u32) -> bool
     times_among(file, kind, count) == 1
 }
 
-// The part of such a file that its one entry of the kind names.
+// The part of such a file that its one entry of the kind names: the bytes, and where they lie. A reference's `ptr` is the
+// piece of memory that it refers to and the place in it, so the part is the caller's own file.
 pub fn part(file: &[u8], kind: u32) -> &[u8]
     requires { ⌜ (is-accepted (file-verdict (now file)) ≡ true) × (just-once (now file) kind ≡ true) ⌝ }
-    ensures { λ r. ⌜ now r ≡ part-of (now (file .entry)) kind ⌝ }
+    ensures bytes { λ r. ⌜ now r ≡ part-of (now (file .entry)) kind ⌝ }
+    ensures place { λ r. ⌜ (r .ptr .0 ≡ file .entry .ptr .0) × (r .ptr .1 ≡ file .entry .ptr .1 + part-start (now (file .entry)) kind) ⌝ }
 {
     let count = words::word_at(file, 2) as usize;
     let i = entry_among(file, kind, count);
@@ -160,7 +162,8 @@ pub fn find_verdict(file: &[u8], kind: u32) -> Verdict
 
 // The section of a kind: that part of the file itself, or an empty part where it is declined.
 pub fn find(file: &[u8], kind: u32) -> &[u8]
-    ensures { λ r. ⌜ now r ≡ section-of (now (file .entry)) kind ⌝ }
+    ensures bytes { λ r. ⌜ now r ≡ section-of (now (file .entry)) kind ⌝ }
+    ensures place { λ r. ⌜ (r .ptr .0 ≡ file .entry .ptr .0) × (r .ptr .1 ≡ file .entry .ptr .1 + section-start (now (file .entry)) kind) ⌝ }
 {
     let v = find_verdict(file, kind);
     match v {

@@ -20,7 +20,7 @@ find-requires c κs = search needs
 
 run-section-requires : tie.Need-run-section-requires
 run-section-requires c κs = let e = sym (c .before .before .before .before .before .before .read .ensures) ∙ c .before .before .before .before .read2 .given .1 in
-    (rw (c .find .ensures) (section-long _ _ _ e), section-few _ _ _ e)
+    (rw (c .find .ensures .0) (section-long _ _ _ e), section-few _ _ _ e)
 
 kind-of-requires : tie.Need-kind-of-requires
 kind-of-requires c κs = search needs
@@ -36,7 +36,7 @@ add-result c = search needs
 
 returns : tie.Need-returns
 returns c = let e = sym (c .before .before .before .before .before .before .before .before .before .before .read .ensures) ∙ c .before .before .before .before .before .before .before .before .read2 .given .1 in
-    simp (c .ask .ensures, c .before .kind-of .ensures, c .before .before .before .run-section .ensures, c .before .before .before .before .find .ensures, c .before .before .before .before .before .before .«open» .ensures) (afforded _ _ _ _ e)
+    simp (c .ask .ensures, c .before .kind-of .ensures, c .before .before .before .run-section .ensures, c .before .before .before .before .find .ensures .0, c .before .before .before .before .before .before .«open» .ensures) (afforded _ _ _ _ e)
 
 returns-2 : tie.Need-returns-2
 returns-2 c = not-afforded _ _ _ (sym (c .before .before .before .read .ensures) ∙ c .before .read3 .given .1)

@@ -1,7 +1,8 @@
 -- `month_start` meets its contract: the calendar rule of the table, at the month asked for.
 -- Assumes nothing.
 use borrow.Author.Needs.{needs}
-use Rattle.calendar.proofs.Months.{table, month-rule}
+use Rattle.calendar.specs.Table.{month-starts}
+use Rattle.calendar.proofs.Months.{month-rule}
 use Rattle.calendar.proofs.month_start.Statement.{statement}
 use Rattle.calendar.proofs.month_start.Tie as tie
 
@@ -12,7 +13,7 @@ array-read-result : tie.Need-array-read-result
 array-read-result c = search needs
 
 returns : tie.Need-returns
-unfolding table
+unfolding month-starts
 returns c = month-rule (c .args .month) (c .pre)
 
 pub month-start-spec : {M : Type 1} → statement M

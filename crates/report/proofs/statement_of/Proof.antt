@@ -19,7 +19,7 @@ find-requires c κs = search needs
 
 run-section-requires : tie.Need-run-section-requires
 run-section-requires c κs = let e = sym (c .before .before .before .before .before .before .read .ensures) ∙ c .before .before .before .before .read2 .given .1 in
-    (rw (c .find .ensures) (section-long _ _ _ e), section-few _ _ _ e)
+    (rw (c .find .ensures .0) (section-long _ _ _ e), section-few _ _ _ e)
 
 show-figures-requires : tie.Need-show-figures-requires
 show-figures-requires c κs = search needs
@@ -29,7 +29,7 @@ enum-known-read-2 c = search needs
 
 returns : tie.Need-returns
 returns c = let e = sym (c .before .before .before .before .before .before .before .before .read .ensures) ∙ c .before .before .before .before .before .before .read2 .given .1 in
-    simp (c .show-figures .ensures, c .before .run-section .ensures, c .before .before .find .ensures, c .before .before .before .before .«open» .ensures) (reported _ _ _ e)
+    simp (c .show-figures .ensures, c .before .run-section .ensures, c .before .before .find .ensures .0, c .before .before .before .before .«open» .ensures) (reported _ _ _ e)
 
 returns-2 : tie.Need-returns-2
 returns-2 c = declined _ _ (sym (c .before .before .before .read .ensures) ∙ c .before .read3 .given .1)

@@ -1,9 +1,9 @@
 -- `sections::part` meets its contract. Assumes nothing.
-use mathlib.Core.Path.{_≡_, _∙_, ap}
+use mathlib.Core.Path.{_≡_, refl, _∙_, ap}
 use Prim.Native.Nat.{_+_, _-_}
 use native.Mathlib.Omega.{arith}
-use Rattle.sections.specs.Table.{section-count}
-use Rattle.sections.specs.Find.{entry-to, part-of}
+use Rattle.sections.specs.Table.{section-count, start-at}
+use Rattle.sections.specs.Find.{entry-to, part-of, part-start}
 use Rattle.sections.proofs.Table.{Keeps, keeps}
 use Rattle.sections.proofs.Finding.{Lies, lies}
 use borrow.Author.Needs.{needs}
@@ -66,12 +66,14 @@ part-result-end : tie.Need-part-result-end
 part-result-end c = omega (arith, lies-here (c .before .before), c .word-at3 .ensures, c .before .word-at2 .ensures)
 
 returns : tie.Need-returns
-unfolding part-of
+unfolding part-of part-start
 returns c =
     let w = c .before .before .word-at2 .result in
     let v = c .before .word-at3 .result in
-    let e : w + v - w ≡ v = omega arith in
-    rw e (simp (c .before .before .word-at2 .ensures, c .before .word-at3 .ensures, entry-is (c .before .before .before)))
+    let e : w + v - w ≡ v = omega arith in (
+      rw e (simp (c .before .before .word-at2 .ensures, c .before .word-at3 .ensures, entry-is (c .before .before .before))),
+      (refl, omega (arith, c .before .before .word-at2 .ensures ∙ ap (start-at (c .before .before .before .before .before .before .args .file .now)) (entry-is (c .before .before .before)))),
+    )
 
 pub part-spec : {M : Type 1} → statement M
 part-spec =

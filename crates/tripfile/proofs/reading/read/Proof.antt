@@ -62,7 +62,7 @@ returns-3 : tie.Need-returns-3
 unfolding read-of
 returns-3 c =
     let f = c .before .before .before .before .before .before .before .before .before .before .args .file .now in
-    simp (read-then f, accepted-here (c .before .before .before .before .before .before), both-here (c .before .before .before) .0, both-here (c .before .before .before) .1, c .read-bodies .ensures, c .before .before .part .ensures, c .before .part2 .ensures)
+    simp (read-then f, accepted-here (c .before .before .before .before .before .before), both-here (c .before .before .before) .0, both-here (c .before .before .before) .1, c .read-bodies .ensures, c .before .before .part .ensures .0, c .before .part2 .ensures .0)
 
 pub read-spec : {M : Type 1} → statement M
 read-spec =
