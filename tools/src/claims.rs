@@ -1,6 +1,8 @@
 //! Holds docs/CLAIMS.md to the tree. A claim is the promise of a public function without arguments, result and body; the
-//! list has one row for each, `| sentence | `CRATE/specs/FILE`: `Definition` | `CRATE::function` |`.
+//! list has one row for each, `| sentence | `CRATE/specs/FILE`: `Definition` | `CRATE::function` |`, and the text of each
+//! definition, in a block under the name of its file.
 use crate::folder;
+use crate::statements;
 use std::fs;
 use std::path::Path;
 
@@ -32,10 +34,12 @@ pub struct Outcome {
 pub fn check(root: &Path) -> Result<Outcome, String> {
     let read = |name: &str| fs::read_to_string(root.join(name)).map_err(|e| format!("{name}: {e}"));
     let claims = claims_below(&root.join("crates"))?;
-    let (rows, mut wrong) = rows(&read("docs/CLAIMS.md")?);
+    let list = read("docs/CLAIMS.md")?;
+    let (rows, mut wrong) = rows(&list);
     for row in &rows {
         wrong.extend(row_faults(root, row, &claims));
     }
+    wrong.extend(statements::faults(root, &list, &rows));
     for claim in &claims {
         let times = rows.iter().filter(|r| r.function == claim.path).count();
         if times != 1 {

@@ -4,4 +4,5 @@ pub mod edit;
 pub mod folder;
 pub mod list;
 pub mod runner;
+pub mod statements;
 pub mod verdict;

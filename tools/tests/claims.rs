@@ -19,12 +19,14 @@ pub fn other(n: u64) -> u64
     n
 }
 ";
-const SPECS: &str = "-- all figures\npub FiguresHold : Type 0\nFiguresHold = all figures ≡ true\n";
+const SPECS: &str = "-- all figures\nabbrev pub FiguresHold : Type 0\nFiguresHold =\n    -- each\n    all figures ≡ true\n\n-- more\nm = 1\n";
+const STATEMENT: &str = "abbrev pub FiguresHold : Type 0\nFiguresHold =\n    all figures ≡ true\n";
 const ROW: &str = "| The figures hold. | `figures/specs/Figures`: `FiguresHold` | `figures::figures_hold` |";
 const LINK: &str = "[claims](docs/CLAIMS.md)";
 
 fn list(row: &str) -> String {
-    format!("# Claims\n\n| claim | definition | function |\n|---|---|---|\n{row}\n")
+    let text = format!("# Claims\n\n| claim | definition | function |\n|---|---|---|\n{row}\n");
+    format!("{text}\n`figures/specs/Figures`\n\n```\n{STATEMENT}```\n")
 }
 
 /// What is wrong in a tree of one crate with these texts.
@@ -121,6 +123,16 @@ fn a_definition_that_is_not_there() {
 fn a_definition_of_the_same_name_from_elsewhere() {
     let source = SOURCE.replace("specs.specs.Figures.{figures, FiguresHold}", "specs.specs.Other.{figures, FiguresHold}");
     finds("elsewhere", &source, SPECS, &list(ROW), "does not take FiguresHold from figures/specs/Figures");
+}
+
+#[test]
+fn a_statement_that_is_not_the_trees() {
+    let all = list(ROW);
+    finds("weakened", SOURCE, &SPECS.replace("all figures", "all []"), &all, "no definition that reads as this one");
+    finds("longer", SOURCE, &SPECS.replace("≡ true", "≡ true\n    → ⊥"), &all, "no definition that reads as this one");
+    finds("shorter", SOURCE, SPECS, &all.replace("    all figures ≡ true\n", ""), "no definition that reads as this one");
+    finds("left out", SOURCE, SPECS, &all.replace(STATEMENT, "m = 1\n"), "the statement of FiguresHold is not given");
+    finds("another file", SOURCE, SPECS, &all.replace("`figures/specs/Figures`\n", "`other/specs/X`\n"), "crates/other/specs/X.antt");
 }
 
 #[test]
