@@ -43,14 +43,20 @@ pub fn check(root: &Path) -> Result<Outcome, String> {
     for claim in &claims {
         let times = rows.iter().filter(|r| r.function == claim.path).count();
         if times != 1 {
-            let text = format!("{} is a claim and stands in docs/CLAIMS.md {times} times, not once", claim.path);
+            let text = format!(
+                "{} is a claim and stands in docs/CLAIMS.md {times} times, not once",
+                claim.path
+            );
             wrong.push(text);
         }
     }
     if !read("README.md")?.contains("(docs/CLAIMS.md)") {
         wrong.push("README.md does not link docs/CLAIMS.md".into());
     }
-    Ok(Outcome { listed: rows.len(), wrong })
+    Ok(Outcome {
+        listed: rows.len(),
+        wrong,
+    })
 }
 
 /// The rows of the list's tables, and what is wrong with those that are none.
@@ -82,8 +88,16 @@ fn is_rule(line: &str) -> bool {
 }
 
 fn row(line: usize, text: &str) -> Option<Row> {
-    let cells: Vec<&str> = text.trim().strip_prefix('|')?.strip_suffix('|')?.split('|').map(str::trim).collect();
-    let [sentence, place, function] = cells[..] else { return None };
+    let cells: Vec<&str> = text
+        .trim()
+        .strip_prefix('|')?
+        .strip_suffix('|')?
+        .split('|')
+        .map(str::trim)
+        .collect();
+    let [sentence, place, function] = cells[..] else {
+        return None;
+    };
     let (file, definition) = place.split_once(':')?;
     let (krate, file) = quoted(file)?.split_once("/specs/")?;
     let file = file.strip_suffix(".antt").unwrap_or(file);
@@ -111,33 +125,56 @@ fn row_faults(root: &Path, row: &Row, claims: &[Claim]) -> Vec<String> {
     let name = format!("crates/{}/specs/{}.antt", row.krate, row.file);
     match fs::read_to_string(root.join(&name)) {
         Err(e) => fault(format!("{name}: {e}")),
-        Ok(text) if !defines(&text, &row.definition) => fault(format!("{name} has no `pub {}`", row.definition)),
+        Ok(text) if !defines(&text, &row.definition) => {
+            fault(format!("{name} has no `pub {}`", row.definition))
+        }
         Ok(_) => {}
     }
     let Some(claim) = claims.iter().find(|c| c.path == row.function) else {
-        fault(format!("there is no claim function {} (public, no arguments, no result, an empty body)", row.function));
+        fault(format!(
+            "there is no claim function {} (public, no arguments, no result, an empty body)",
+            row.function
+        ));
         return wrong;
     };
     let due = format!("ensures {{ λ _. ⌜ {} ⌝ }}", row.definition);
     if claim.promise != due {
-        fault(format!("{} promises `{}`, not `{due}`", row.function, claim.promise));
+        fault(format!(
+            "{} promises `{}`, not `{due}`",
+            row.function, claim.promise
+        ));
     }
     let module = row.file.replace('/', ".");
-    let brought = |m: &str| m.starts_with(&format!("Rattle.{}", row.krate)) && m.ends_with(&format!(".specs.{module}"));
-    if !claim.uses.iter().any(|(m, n)| n == &row.definition && brought(m)) {
-        fault(format!("the file of {} does not take {} from {}/specs/{}", row.function, row.definition, row.krate, row.file));
+    let brought = |m: &str| {
+        m.starts_with(&format!("Rattle.{}", row.krate)) && m.ends_with(&format!(".specs.{module}"))
+    };
+    if !claim
+        .uses
+        .iter()
+        .any(|(m, n)| n == &row.definition && brought(m))
+    {
+        fault(format!(
+            "the file of {} does not take {} from {}/specs/{}",
+            row.function, row.definition, row.krate, row.file
+        ));
     }
     wrong
 }
 
 /// Does the text of a specs file declare the name as public?
 pub fn defines(text: &str, name: &str) -> bool {
-    text.lines().map(|line| line.split("--").next().unwrap_or("")).any(|line| {
-        let mut words = line.split_whitespace().skip_while(|w| *w != "pub").skip(1);
-        let first = words.next();
-        let named = if matches!(first, Some("record" | "data")) { words.next() } else { first };
-        named == Some(name)
-    })
+    text.lines()
+        .map(|line| line.split("--").next().unwrap_or(""))
+        .any(|line| {
+            let mut words = line.split_whitespace().skip_while(|w| *w != "pub").skip(1);
+            let first = words.next();
+            let named = if matches!(first, Some("record" | "data")) {
+                words.next()
+            } else {
+                first
+            };
+            named == Some(name)
+        })
 }
 
 /// The claim functions of all crates.
@@ -147,8 +184,12 @@ pub fn claims_below(crates: &Path) -> Result<Vec<Claim>, String> {
         let src = dir.join("src");
         for path in folder::files_below(&src).unwrap_or_default() {
             if path.extension().is_some_and(|e| e == "rt") {
-                let text = fs::read_to_string(&path).map_err(|e| format!("{}: {e}", path.display()))?;
-                let prefix = module(&folder::name_of(&dir), path.strip_prefix(&src).unwrap_or(&path));
+                let text =
+                    fs::read_to_string(&path).map_err(|e| format!("{}: {e}", path.display()))?;
+                let prefix = module(
+                    &folder::name_of(&dir),
+                    path.strip_prefix(&src).unwrap_or(&path),
+                );
                 found.extend(claims_in(&prefix, &text));
             }
         }
@@ -159,19 +200,32 @@ pub fn claims_below(crates: &Path) -> Result<Vec<Claim>, String> {
 /// The path of a module: the crate for src/lib.rt, `CRATE::a::b` for src/a/b.rt.
 fn module(krate: &str, file: &Path) -> String {
     let parts = file.with_extension("");
-    let names: Vec<String> = parts.iter().map(|p| p.to_string_lossy().into_owned()).collect();
-    let inner = names.iter().filter(|n| !["lib", "main", "mod"].contains(&n.as_str())).map(|n| format!("::{n}"));
+    let names: Vec<String> = parts
+        .iter()
+        .map(|p| p.to_string_lossy().into_owned())
+        .collect();
+    let inner = names
+        .iter()
+        .filter(|n| !["lib", "main", "mod"].contains(&n.as_str()))
+        .map(|n| format!("::{n}"));
     format!("{krate}{}", inner.collect::<String>())
 }
 
 /// The claim functions in the text of one file.
 pub fn claims_in(prefix: &str, text: &str) -> Vec<Claim> {
-    let code: String = text.lines().map(|l| l.split("//").next().unwrap_or("").to_owned() + "\n").collect();
+    let code: String = text
+        .lines()
+        .map(|l| l.split("//").next().unwrap_or("").to_owned() + "\n")
+        .collect();
     let uses = uses_in(&code);
     let mut found = Vec::new();
     for (at, mark) in code.match_indices("pub fn ") {
         if let Some((name, promise)) = claim(&code[at + mark.len()..]) {
-            found.push(Claim { path: format!("{prefix}::{name}"), promise, uses: uses.clone() });
+            found.push(Claim {
+                path: format!("{prefix}::{name}"),
+                promise,
+                uses: uses.clone(),
+            });
         }
     }
     found
@@ -182,7 +236,10 @@ fn claim(text: &str) -> Option<(&str, String)> {
     let (name, rest) = text.split_once('(')?;
     let rest = rest.trim_start().strip_prefix(')')?;
     let body = body_at(rest)?;
-    let promise = rest[..body].split_whitespace().collect::<Vec<_>>().join(" ");
+    let promise = rest[..body]
+        .split_whitespace()
+        .collect::<Vec<_>>()
+        .join(" ");
     let empty = rest[body + 1..].trim_start().starts_with('}');
     (empty && !promise.starts_with("->")).then_some((name.trim(), promise))
 }
@@ -192,7 +249,10 @@ fn body_at(text: &str) -> Option<usize> {
     let mut from = 0;
     loop {
         let open = from + text[from..].find('{')?;
-        if text[from..open].split_whitespace().all(|w| !["requires", "ensures"].contains(&w)) {
+        if text[from..open]
+            .split_whitespace()
+            .all(|w| !["requires", "ensures"].contains(&w))
+        {
             return Some(open);
         }
         from = open + closing(&text[open..])? + 1;
@@ -219,8 +279,12 @@ fn closing(text: &str) -> Option<usize> {
 fn uses_in(code: &str) -> Vec<(String, String)> {
     let mut found = Vec::new();
     for part in code.split("ghost use ").skip(1) {
-        let Some((line, _)) = part.split_once(';') else { continue };
-        let Some((module, names)) = line.split_once(".{") else { continue };
+        let Some((line, _)) = part.split_once(';') else {
+            continue;
+        };
+        let Some((module, names)) = line.split_once(".{") else {
+            continue;
+        };
         for name in names.trim_end().trim_end_matches('}').split(',') {
             found.push((module.trim().to_string(), name.trim().to_string()));
         }

@@ -38,7 +38,12 @@ pub fn parse(text: &str) -> Result<Vec<Replacement>, String> {
                 return Err("no 'file:' line before a replacement".into());
             }
             let new = text.strip_prefix(' ').unwrap_or(text).to_string();
-            found.push(Replacement { file: file.clone(), after: after.take(), old, new });
+            found.push(Replacement {
+                file: file.clone(),
+                after: after.take(),
+                old,
+                new,
+            });
         }
     }
     if old.is_some() {
@@ -64,18 +69,27 @@ pub fn replace(text: &str, r: &Replacement) -> Result<String, String> {
         None => once(text, &r.old, "'old:' text")?,
         Some(mark) => {
             let from = once(text, mark, "'after:' text")? + mark.len();
-            from + text[from..].find(&r.old).ok_or(format!("the 'old:' text is not there after: {mark}"))?
+            from + text[from..]
+                .find(&r.old)
+                .ok_or(format!("the 'old:' text is not there after: {mark}"))?
         }
     };
     if r.old == r.new {
         return Err("the new text is the old one".into());
     }
-    Ok(format!("{}{}{}", &text[..at], r.new, &text[at + r.old.len()..]))
+    Ok(format!(
+        "{}{}{}",
+        &text[..at],
+        r.new,
+        &text[at + r.old.len()..]
+    ))
 }
 
 fn once(text: &str, part: &str, name: &str) -> Result<usize, String> {
     let mut places = text.match_indices(part);
-    let first = places.next().ok_or(format!("the {name} is not there: {part}"))?;
+    let first = places
+        .next()
+        .ok_or(format!("the {name} is not there: {part}"))?;
     if places.next().is_some() {
         return Err(format!("the {name} is there more than once: {part}"));
     }
@@ -128,13 +142,19 @@ mod tests {
     fn a_file_line_holds_for_several_pairs() {
         let all = parse("file: src/lib.rt\nold: a\nnew: b\nold: c\nnew:\n").unwrap();
         assert_eq!(all.len(), 2);
-        assert_eq!((all[1].file.as_str(), all[1].new.as_str()), ("src/lib.rt", ""));
+        assert_eq!(
+            (all[1].file.as_str(), all[1].new.as_str()),
+            ("src/lib.rt", "")
+        );
     }
 
     #[test]
     fn spaces_of_the_texts_are_kept() {
         let r = one("file: src/lib.rt\nold:     at + 8\nnew:     at + 4\n");
-        assert_eq!((r.old.as_str(), r.new.as_str()), ("    at + 8", "    at + 4"));
+        assert_eq!(
+            (r.old.as_str(), r.new.as_str()),
+            ("    at + 8", "    at + 4")
+        );
     }
 
     #[test]
@@ -163,7 +183,10 @@ mod tests {
     #[test]
     fn a_text_after_another_one() {
         let r = one("file: src/lib.rt\nafter: fn two\nold: x\nnew: y\n");
-        assert_eq!(replace("fn one x fn two x x", &r).unwrap(), "fn one x fn two y x");
+        assert_eq!(
+            replace("fn one x fn two x x", &r).unwrap(),
+            "fn one x fn two y x"
+        );
         assert!(replace("fn two x fn two x", &r).is_err());
         assert!(replace("x fn two", &r).is_err());
     }

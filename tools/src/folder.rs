@@ -18,14 +18,19 @@ pub fn files_below(dir: &Path) -> io::Result<Vec<PathBuf>> {
 
 /// What stands in a folder, in order.
 pub fn entries(dir: &Path) -> io::Result<Vec<PathBuf>> {
-    let mut paths = fs::read_dir(dir)?.map(|e| Ok(e?.path())).collect::<io::Result<Vec<_>>>()?;
+    let mut paths = fs::read_dir(dir)?
+        .map(|e| Ok(e?.path()))
+        .collect::<io::Result<Vec<_>>>()?;
     paths.sort();
     Ok(paths)
 }
 
 /// The last part of a path, as text.
 pub fn name_of(path: &Path) -> String {
-    path.file_name().unwrap_or_default().to_string_lossy().into_owned()
+    path.file_name()
+        .unwrap_or_default()
+        .to_string_lossy()
+        .into_owned()
 }
 
 pub fn copy(from: &Path, to: &Path) -> io::Result<()> {
@@ -47,7 +52,10 @@ pub fn copy_repository(root: &Path, to: &Path) -> io::Result<()> {
     fs::copy(root.join("crates.txt"), to.join("crates.txt"))?;
     for dir in entries(&root.join("crates"))? {
         for part in ["src", "specs", "proofs", "stdin", "stdout", "args", "data"] {
-            let (from, target) = (dir.join(part), to.join("crates").join(name_of(&dir)).join(part));
+            let (from, target) = (
+                dir.join(part),
+                to.join("crates").join(name_of(&dir)).join(part),
+            );
             if from.is_dir() {
                 copy(&from, &target)?;
             } else if from.is_file() {
@@ -56,7 +64,10 @@ pub fn copy_repository(root: &Path, to: &Path) -> io::Result<()> {
         }
     }
     for part in ["rlib", "stamp"] {
-        copy(&root.join("target").join(part), &to.join("target").join(part))?;
+        copy(
+            &root.join("target").join(part),
+            &to.join("target").join(part),
+        )?;
     }
     Ok(())
 }
@@ -64,5 +75,8 @@ pub fn copy_repository(root: &Path, to: &Path) -> io::Result<()> {
 /// The bytes of all files below a folder; 0 where there is none.
 pub fn size(dir: &Path) -> u64 {
     let files = files_below(dir).unwrap_or_default();
-    files.iter().map(|f| f.metadata().map_or(0, |m| m.len())).sum()
+    files
+        .iter()
+        .map(|f| f.metadata().map_or(0, |m| m.len()))
+        .sum()
 }

@@ -35,7 +35,12 @@ pub fn run(settings: &Run, crates: Vec<Crate>) -> Result<Outcome, String> {
     let mut queue = crates;
     queue.reverse();
     let workers = settings.workers.clamp(1, queue.len().max(1));
-    let board = Mutex::new(Board { queue, total, tried: 0, wrong: Vec::new() });
+    let board = Mutex::new(Board {
+        queue,
+        total,
+        tried: 0,
+        wrong: Vec::new(),
+    });
     let base = settings.root.join("target/edits");
     let _ = fs::remove_dir_all(&base);
     std::thread::scope(|scope| {
@@ -46,12 +51,18 @@ pub fn run(settings: &Run, crates: Vec<Crate>) -> Result<Outcome, String> {
     });
     let _ = fs::remove_dir_all(&base);
     let board = board.into_inner().map_err(|e| e.to_string())?;
-    Ok(Outcome { tried: board.tried, wrong: board.wrong })
+    Ok(Outcome {
+        tried: board.tried,
+        wrong: board.wrong,
+    })
 }
 
 fn work(settings: &Run, board: &Mutex<Board>, dir: &Path) {
     if let Err(e) = folder::copy_repository(&settings.root, dir) {
-        note(board, format!("cannot copy the repository to {}: {e}", dir.display()));
+        note(
+            board,
+            format!("cannot copy the repository to {}: {e}", dir.display()),
+        );
         return;
     }
     loop {
@@ -76,7 +87,13 @@ fn try_crate(settings: &Run, board: &Mutex<Board>, dir: &Path, c: &Crate) {
     for e in &c.edits {
         try_edit(board, dir, c, e, &log(&e.name));
     }
-    as_it_is(board, dir, c, "after its edits, over the same folder", &log("_after"));
+    as_it_is(
+        board,
+        dir,
+        c,
+        "after its edits, over the same folder",
+        &log("_after"),
+    );
 }
 
 /// The crate without an edit must be proved.
@@ -90,7 +107,14 @@ fn as_it_is(board: &Mutex<Board>, dir: &Path, c: &Crate, when: &str, log: &Path)
             true
         }
         Verdict::Refused(m) | Verdict::Hollow(m) | Verdict::Failed(m) => {
-            note(board, format!("{} is NOT PROVED {when} ({took:.1} s): {}", c.name, short(&m)));
+            note(
+                board,
+                format!(
+                    "{} is NOT PROVED {when} ({took:.1} s): {}",
+                    c.name,
+                    short(&m)
+                ),
+            );
             false
         }
     }
@@ -111,13 +135,22 @@ fn try_edit(board: &Mutex<Board>, dir: &Path, c: &Crate, e: &Edit, log: &Path) {
     let took = began.elapsed().as_secs_f64();
     let (right, said) = match verdict {
         Verdict::Refused(m) => (true, format!("refused ({took:.1} s): {}", short(&m))),
-        Verdict::Proved => (false, format!("NOT REFUSED ({took:.1} s): the crate is proved with this edit")),
-        Verdict::Hollow(m) => (false, format!("REFUSED FOR ITS SHAPE ALONE ({took:.1} s): {}", short(&m))),
+        Verdict::Proved => (
+            false,
+            format!("NOT REFUSED ({took:.1} s): the crate is proved with this edit"),
+        ),
+        Verdict::Hollow(m) => (
+            false,
+            format!("REFUSED FOR ITS SHAPE ALONE ({took:.1} s): {}", short(&m)),
+        ),
         Verdict::Failed(m) => (false, format!("NOT TRIED ({took:.1} s): {}", short(&m))),
     };
     let mut b = board.lock().expect("no worker panics");
     b.tried += 1;
-    println!("edits: {} of {} {}/{} {said}", b.tried, b.total, c.name, e.name);
+    println!(
+        "edits: {} of {} {}/{} {said}",
+        b.tried, b.total, c.name, e.name
+    );
     if !right {
         b.wrong.push(format!("{}/{} {said}", c.name, e.name));
     }
@@ -125,12 +158,20 @@ fn try_edit(board: &Mutex<Board>, dir: &Path, c: &Crate, e: &Edit, log: &Path) {
 
 /// Runs `rt dev` on the crate in the worker's copy and keeps what it said.
 fn check(dir: &Path, name: &str, log: &Path) -> Verdict {
-    let ended = Command::new("rt").args(["dev", name]).current_dir(dir).stdin(Stdio::null()).output();
+    let ended = Command::new("rt")
+        .args(["dev", name])
+        .current_dir(dir)
+        .stdin(Stdio::null())
+        .output();
     let out = match ended {
         Ok(out) => out,
         Err(e) => return Verdict::Failed(format!("rt cannot be run: {e}")),
     };
-    let text = format!("{}{}", String::from_utf8_lossy(&out.stdout), String::from_utf8_lossy(&out.stderr));
+    let text = format!(
+        "{}{}",
+        String::from_utf8_lossy(&out.stdout),
+        String::from_utf8_lossy(&out.stderr)
+    );
     let folder = log.parent().unwrap_or(Path::new("."));
     if let Err(e) = fs::create_dir_all(folder).and_then(|()| fs::write(log, &text)) {
         return Verdict::Failed(format!("cannot write {}: {e}", log.display()));
@@ -142,5 +183,9 @@ fn check(dir: &Path, name: &str, log: &Path) -> Verdict {
 /// The start of a message, which can run to thousands of characters.
 fn short(message: &str) -> String {
     let cut: String = message.chars().take(150).collect();
-    if cut.len() < message.len() { format!("{cut} ...") } else { cut }
+    if cut.len() < message.len() {
+        format!("{cut} ...")
+    } else {
+        cut
+    }
 }

@@ -17,17 +17,27 @@ pub fn faults(root: &Path, list: &str, rows: &[Row]) -> Vec<String> {
     let mut wrong = Vec::new();
     for s in &found {
         let name = format!("crates/{}.antt", s.file);
-        let there = fs::read_to_string(root.join(&name)).is_ok_and(|text| blocks(&text).contains(&s.text));
+        let there =
+            fs::read_to_string(root.join(&name)).is_ok_and(|text| blocks(&text).contains(&s.text));
         if !there {
             let first = s.text.lines().next().unwrap_or("");
-            wrong.push(format!("docs/CLAIMS.md line {}: {name} has no definition that reads as this one: {first}", s.line));
+            wrong.push(format!(
+                "docs/CLAIMS.md line {}: {name} has no definition that reads as this one: {first}",
+                s.line
+            ));
         }
     }
     for row in rows {
         let file = format!("{}/specs/{}", row.krate, row.file);
         let first = |s: &Statement| s.text.lines().next().unwrap_or("").to_string();
-        if !found.iter().any(|s| s.file == file && defines(&first(s), &row.definition)) {
-            wrong.push(format!("docs/CLAIMS.md line {}: the statement of {} is not given below", row.line, row.definition));
+        if !found
+            .iter()
+            .any(|s| s.file == file && defines(&first(s), &row.definition))
+        {
+            wrong.push(format!(
+                "docs/CLAIMS.md line {}: the statement of {} is not given below",
+                row.line, row.definition
+            ));
         }
     }
     wrong
@@ -64,7 +74,11 @@ fn chunks(block: &str, start: usize, file: &str) -> Vec<Statement> {
     let mut line = start;
     for part in block.split("\n\n") {
         if let Some(text) = blocks(part).into_iter().next() {
-            found.push(Statement { line, file: file.to_string(), text });
+            found.push(Statement {
+                line,
+                file: file.to_string(),
+                text,
+            });
         }
         line += part.lines().count() + 1;
     }

@@ -13,7 +13,12 @@ pub enum Verdict {
 }
 
 /// Messages of a proof that names what the edited code no longer has: such a refusal shows nothing.
-const HOLLOW: [&str; 4] = ["has no `Need-", "can be named from here", "has no field", "not in scope"];
+const HOLLOW: [&str; 4] = [
+    "has no `Need-",
+    "can be named from here",
+    "has no field",
+    "not in scope",
+];
 
 pub fn judge(status: Option<i32>, output: &str) -> Verdict {
     let logic = output.lines().find_map(|line| line.strip_prefix("logic="));
@@ -21,7 +26,9 @@ pub fn judge(status: Option<i32>, output: &str) -> Verdict {
     match (status, logic) {
         (Some(0), Some(l)) if starts_word(l, "proved") => Verdict::Proved,
         (Some(1), Some(l)) if starts_word(l, "not-proved") => {
-            let of_the_edit = ["specs/", "src/"].iter().any(|part| first.starts_with(part));
+            let of_the_edit = ["specs/", "src/"]
+                .iter()
+                .any(|part| first.starts_with(part));
             if of_the_edit || HOLLOW.iter().any(|text| first.contains(text)) {
                 Verdict::Hollow(first)
             } else {
@@ -39,9 +46,18 @@ fn starts_word(line: &str, word: &str) -> bool {
 
 /// The first line with an error of its own, or else what a function is told not to keep, or else the first one not proved.
 pub fn first_message(output: &str) -> String {
-    let with = |part: &str| output.lines().find(|line| line.contains(part) && !line.contains(FOLLOWS));
-    let line = with(": error").or_else(|| with("it is not proved")).or_else(|| with("not proved"));
-    line.or(output.lines().next()).unwrap_or("it said nothing").trim().to_string()
+    let with = |part: &str| {
+        output
+            .lines()
+            .find(|line| line.contains(part) && !line.contains(FOLLOWS))
+    };
+    let line = with(": error")
+        .or_else(|| with("it is not proved"))
+        .or_else(|| with("not proved"));
+    line.or(output.lines().next())
+        .unwrap_or("it said nothing")
+        .trim()
+        .to_string()
 }
 
 /// In the message of a proof that only rests on one that failed.
@@ -53,7 +69,10 @@ mod tests {
 
     #[test]
     fn a_proved_crate_is_not_refused() {
-        assert_eq!(judge(Some(0), "fn a: proved\nlogic=proved fns=3\n"), Verdict::Proved);
+        assert_eq!(
+            judge(Some(0), "fn a: proved\nlogic=proved fns=3\n"),
+            Verdict::Proved
+        );
     }
 
     #[test]
@@ -78,9 +97,18 @@ mod tests {
 
     #[test]
     fn no_verdict_is_a_failure() {
-        assert!(matches!(judge(Some(1), "src/lib.rt:3:1: error: expected `;`\n"), Verdict::Failed(_)));
-        assert!(matches!(judge(Some(2), "logic=not-proved\n"), Verdict::Failed(_)));
-        assert!(matches!(judge(Some(0), "logic=not-proved\n"), Verdict::Failed(_)));
+        assert!(matches!(
+            judge(Some(1), "src/lib.rt:3:1: error: expected `;`\n"),
+            Verdict::Failed(_)
+        ));
+        assert!(matches!(
+            judge(Some(2), "logic=not-proved\n"),
+            Verdict::Failed(_)
+        ));
+        assert!(matches!(
+            judge(Some(0), "logic=not-proved\n"),
+            Verdict::Failed(_)
+        ));
         assert!(matches!(judge(None, ""), Verdict::Failed(_)));
     }
 }

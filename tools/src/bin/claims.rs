@@ -14,6 +14,14 @@ fn main() -> ExitCode {
     for line in &outcome.wrong {
         println!("claims: {line}");
     }
-    println!("claims: {} listed, {} wrong", outcome.listed, outcome.wrong.len());
-    if outcome.wrong.is_empty() { ExitCode::SUCCESS } else { ExitCode::from(1) }
+    println!(
+        "claims: {} listed, {} wrong",
+        outcome.listed,
+        outcome.wrong.len()
+    );
+    if outcome.wrong.is_empty() {
+        ExitCode::SUCCESS
+    } else {
+        ExitCode::from(1)
+    }
 }

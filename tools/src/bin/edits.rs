@@ -26,8 +26,14 @@ fn main() -> ExitCode {
 }
 
 fn arguments() -> Result<Arguments, String> {
-    let jobs = std::thread::available_parallelism().map_or(1, |n| n.get()).min(4);
-    let mut found = Arguments { jobs, logs: PathBuf::from("logs/edits"), crates: Vec::new() };
+    let jobs = std::thread::available_parallelism()
+        .map_or(1, |n| n.get())
+        .min(4);
+    let mut found = Arguments {
+        jobs,
+        logs: PathBuf::from("logs/edits"),
+        crates: Vec::new(),
+    };
     let mut words = std::env::args().skip(1);
     while let Some(word) = words.next() {
         match word.as_str() {
@@ -51,24 +57,46 @@ fn try_all(a: Arguments) -> Result<bool, String> {
     let crates = list::crates(&root, &a.crates)?;
     let names: Vec<String> = crates.iter().map(|c| c.name.clone()).collect();
     let count: usize = crates.iter().map(|c| c.edits.len()).sum();
-    println!("edits: {count} edits of {} crates, {} at a time; logs in {}", names.len(), a.jobs, a.logs.display());
+    println!(
+        "edits: {count} edits of {} crates, {} at a time; logs in {}",
+        names.len(),
+        a.jobs,
+        a.logs.display()
+    );
     prove(&names)?;
-    let settings = Run { root, logs: a.logs, workers: a.jobs };
+    let settings = Run {
+        root,
+        logs: a.logs,
+        workers: a.jobs,
+    };
     let outcome = runner::run(&settings, crates)?;
     for line in &outcome.wrong {
         println!("edits: WRONG: {line}");
     }
     if outcome.tried != count {
-        println!("edits: WRONG: {} of {count} edits were not come to", count - outcome.tried);
+        println!(
+            "edits: WRONG: {} of {count} edits were not come to",
+            count - outcome.tried
+        );
     }
-    println!("edits: {} tried, {} not refused", outcome.tried, outcome.wrong.len());
+    println!(
+        "edits: {} tried, {} not refused",
+        outcome.tried,
+        outcome.wrong.len()
+    );
     Ok(outcome.wrong.is_empty() && outcome.tried == count)
 }
 
 /// The crates as they are must be proved; at once where nothing changed since they were.
 fn prove(names: &[String]) -> Result<(), String> {
     let failed = |e: std::io::Error| format!("rt cannot be run: {e}");
-    let mut child = Command::new("rt").arg("check").args(names).stdin(Stdio::null()).stdout(Stdio::piped()).spawn().map_err(failed)?;
+    let mut child = Command::new("rt")
+        .arg("check")
+        .args(names)
+        .stdin(Stdio::null())
+        .stdout(Stdio::piped())
+        .spawn()
+        .map_err(failed)?;
     for line in BufReader::new(child.stdout.take().expect("it is piped")).lines() {
         let line = line.map_err(failed)?;
         if line.starts_with("rt: ") && !line.contains("unchanged") {
