@@ -12,6 +12,7 @@ ghost use lib.ListN.{length};
 ghost use Rattle.account.specs.Answers.{account-of};
 ghost use Rattle.replay.specs.Replay.{replayed-of, progress-of};
 ghost use Rattle.tripfile.specs.Reading.{read-of};
+ghost use Rattle.report.specs.Handed.{ReaderHandsOutCalls};
 ghost use Rattle.report.specs.Statement.{figures-of, report-of, run-first, taken, trip-run};
 
 // The nine figures.
@@ -49,7 +50,12 @@ fn take_call(t: Progress, log: &mut [u64; 1599], s: Step) -> Progress
 }
 
 // The first n calls of a calls section, with the log lent: one reader over the section, moved on at each call.
-fn run_calls<'a, 'l>(section: &'a [u8], n: usize, from: Progress, log: &'l mut [u64; 1599]) -> Progress
+fn run_calls<'a, 'l>(
+    section: &'a [u8],
+    n: usize,
+    from: Progress,
+    log: &'l mut [u64; 1599],
+) -> Progress
     requires { ⌜ (8 * n ≤ length (now section)) × (length (now log) ≡ 1599) × (from .refused ≡ 0) ⌝ }
     ensures { λ r. ⌜ replayed-of r (now (log .exit)) ≡ run-first (account-of (from .state) (now (log .entry))) (now (section .entry)) n ⌝ }
 {
@@ -106,6 +112,11 @@ fn show_figures(t: Replayed) -> Figures
         refused: t.refused,
     }
 }
+
+// A reader over the calls section of a trip file that was read hands out the file's calls in order, and then none.
+pub fn reader_hands_out_calls()
+    ensures { λ _. ⌜ ReaderHandsOutCalls ⌝ }
+{}
 
 // All calls of a trip file that was read, on an account that is opened under its plan.
 pub fn run_trip(file: &[u8], plan: Plan, calls: usize) -> Replayed
