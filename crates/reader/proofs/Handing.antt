@@ -1,5 +1,5 @@
 -- A reader that is asked again and again hands out the section's calls, in order, and then none. Assumes nothing.
-use mathlib.Core.Path.{_≡_, refl, sym, _∙_, ap}
+use mathlib.Core.Path.{_≡_, refl, _∙_, ap}
 use mathlib.Core.List.{List, [], _∷_, _++_}
 use Prim.Native.Nat.{ℕ, zero, suc, _+_, _*_, _/_, _≤_, _<_}
 use native.Mathlib.Nat.{zero-add, suc-add}
@@ -16,12 +16,12 @@ use Rattle.reader.proofs.Decoded.{decoded-call, decoded-end, after-call
 handed-more : (s : List ℕ) (at m n : ℕ) → handed-from s at (m + n) ≡ handed-from s at m ++ handed-from s (stands-after s at m) n
 unfolding handed-from stands-after
 handed-more s at zero n = rw (zero-add n) refl
-handed-more s at (suc m) n = rw (suc-add m n, handed-more s (position-after s at) m n) refl
+handed-more s at (suc m) n = ap (handed-from s at) (suc-add m n) ∙ ap (λ (xs : List Step). decoded s at ∷ xs) (handed-more s (position-after s at) m n)
 
 stands-more : (s : List ℕ) (at m n : ℕ) → stands-after s at (m + n) ≡ stands-after s (stands-after s at m) n
 unfolding stands-after
 stands-more s at zero n = rw (zero-add n) refl
-stands-more s at (suc m) n = rw (suc-add m n) (stands-more s (position-after s at) m n)
+stands-more s at (suc m) n = ap (stands-after s at) (suc-add m n) ∙ stands-more s (position-after s at) m n
 
 -- while calls remain
 stands-at : (s : List ℕ) (n : ℕ) → 8 * n ≤ length s → stands-after s 0 n ≡ 8 * n

@@ -1,7 +1,7 @@
 -- What a reader hands out of a file that is read are the file's calls. Assumes nothing.
 use mathlib.Core.Path.{_≡_, refl, _∙_, ap}
 use mathlib.Core.List.{List, [], _∷_, _++_}
-use Prim.Native.Nat.{ℕ, zero, suc, _+_, _*_, _/_}
+use Prim.Native.Nat.{ℕ, zero, suc, _/_}
 use native.Mathlib.Omega.{arith}
 use lib.ListN.{length, replicate}
 use Rattle.sections.specs.Find.{section-of}
@@ -10,7 +10,7 @@ use Rattle.tripfile.specs.Bodies.{call-at, first-calls, calls-in}
 use Rattle.tripfile.proofs.Held.{holds}
 use Rattle.reader.specs.declared.Step.{Step}
 use Rattle.reader.specs.declared.Step.the-variants.{Call, End}
-use Rattle.reader.specs.Handed.{handed-from, first-steps}
+use Rattle.reader.specs.Handed.{first-steps}
 use Rattle.reader.proofs.Handing.{hands-out-calls}
 use Rattle.report.specs.Handed.{steps-of, ReaderHandsOutCalls}
 

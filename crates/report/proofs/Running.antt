@@ -82,11 +82,11 @@ pub run-none : (a : Account) (s : List ℕ) → run-first a s 0 ≡ record { acc
 unfolding run-first
 run-none a s = refl
 
-pub run-more : (a : Account) (s : List ℕ) (i : ℕ) → 8 * i + 8 ≤ length s → taken (run-first a s i) (decoded s (8 * i)) ≡ run-first a s (i + 1)
+run-more : (a : Account) (s : List ℕ) (i : ℕ) → 8 * i + 8 ≤ length s → taken (run-first a s i) (decoded s (8 * i)) ≡ run-first a s (i + 1)
 unfolding run-first
 run-more a s i h = rw (decoded-call s i h, add-one i) refl
 
-pub run-bounded : (a : Account) (s : List ℕ) (n : ℕ) → run-first a s n .refused ≤ n
+run-bounded : (a : Account) (s : List ℕ) (n : ℕ) → run-first a s n .refused ≤ n
 unfolding run-first
 run-bounded a s zero = omega arith
 run-bounded a s (suc n) = omega (arith, run-bounded a s n, step-bounded (run-first a s n) (coded (word s (2 * n)) (word s (2 * n + 1))))

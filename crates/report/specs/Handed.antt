@@ -17,8 +17,9 @@ unfoldable pub steps-of : List B.Call → List Step
 steps-of [] = []
 steps-of (c ∷ cs) = Call (c .code) (c .number) ∷ steps-of cs
 
--- the claim: of a file that is read with n calls, a reader over its calls section hands out the file's n calls, all of them and
--- in order, and then none, however often it is asked
+-- the claim: of a file that is read with n calls, a reader over its calls section hands out the file's n calls, all of
+-- them and in order, and then none, however often it is asked
 abbrev pub ReaderHandsOutCalls : Type 0
 ReaderHandsOutCalls = (f : List ℕ) (p : Plan) (n more : ℕ) → read-of f ≡ Trip p n
-    → (handed-from (section-of f 2) 0 (n + more) ≡ steps-of (calls-of f) ++ replicate more End) × (length (calls-of f) ≡ n)
+    → (handed-from (section-of f 2) 0 (n + more) ≡ steps-of (calls-of f) ++ replicate more End)
+    × (length (calls-of f) ≡ n)

@@ -57,7 +57,8 @@ fn run_calls<'a, 'l>(
     log: &'l mut [u64; 1599],
 ) -> Progress
     requires { ⌜ (8 * n ≤ length (now section)) × (length (now log) ≡ 1599) × (from .refused ≡ 0) ⌝ }
-    ensures { λ r. ⌜ replayed-of r (now (log .exit)) ≡ run-first (account-of (from .state) (now (log .entry))) (now (section .entry)) n ⌝ }
+    ensures { λ r. ⌜ replayed-of r (now (log .exit))
+        ≡ run-first (account-of (from .state) (now (log .entry))) (now (section .entry)) n ⌝ }
 {
     let mut r = reader::new(section);
     let mut t = from;

@@ -1,5 +1,4 @@
 -- `report::run_trip` meets its contract. Assumes nothing.
-use mathlib.Core.Path.{_∙_}
 use borrow.Author.Needs.{needs}
 use Rattle.report.proofs.Running.{section-once, part-long, file-replayed}
 use Rattle.report.proofs.run_trip.Statement.{statement}
