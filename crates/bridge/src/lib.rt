@@ -118,11 +118,9 @@ pub extern "C" fn meter_afford(file: &[u8], kind: u64, times: u64) -> u64
     let read = tripfile::reading::read(file);
     match read {
         Read::Trip { plan, calls } => {
-            let opened = Account::open(plan);
-            let a = opened.account;
-            let t = report::run_section(sections::find(file, 2), calls, a);
-            let b = t.account;
-            ask(b, kind_of(kind), times)
+            let t = report::run_trip(file, plan, calls);
+            let a = t.account;
+            ask(a, kind_of(kind), times)
         }
         Read::Refused(n) => 3000000000 + n % 1000,
     }
