@@ -1,12 +1,11 @@
 -- Laws of lines put one after the other. Assumes nothing.
-use mathlib.Core.Path.{_≡_, refl, sym, _∙_, ap}
-use Prim.Native.Nat.{ℕ, _+_, _≤_, _<_, _^_}
-use mathlib.Core.List.{List, [], _∷_, _++_}
+use mathlib.Core.Path.{_≡_, _∙_, ap}
+use Prim.Native.Nat.{ℕ, _+_, _≤_}
+use mathlib.Core.List.{List, _++_}
 use native.Mathlib.Omega.{arith}
-use lib.ListN.{length, drop, length-append}
-use Rattle.text.specs.Text.{placed, decimal}
+use lib.ListN.{length, length-append}
+use Rattle.text.specs.Text.{placed}
 use Rattle.text.proofs.Placing.{placed-after}
-use Rattle.printout.specs.Printout.{ended}
 
 -- a buffer b that was b₀, with the text s put from place a on, which ends at e
 pub record Put (b₀ : List ℕ) (a : ℕ) (b : List ℕ) (e : ℕ) (s : List ℕ) : Type 0 where

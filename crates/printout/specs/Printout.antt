@@ -44,7 +44,7 @@ data-lines f =
     ++ line "past" (decimal (f .past))
     ++ line "refused" (decimal (f .refused))
 
--- the nine lines; "A bad file prints one line, `file` and its number"
+-- the nine lines, or, of a bad file, one line: `file` and its number
 unfoldable pub text-of : Report → List ℕ
 text-of (Lines f) = money-lines f ++ data-lines f
 text-of (Refused n) = line "file" (decimal n)

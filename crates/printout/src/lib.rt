@@ -3,13 +3,13 @@ use report::Figures;
 use report::Report;
 use tariff::Allowance;
 ghost use mathlib.Core.Path.{_≡_};
-ghost use mathlib.Core.List.{_++_};
 ghost use Prim.Native.Nat.{_+_, _≤_};
-ghost use lib.ListN.{length, drop};
+ghost use lib.ListN.{length};
 ghost use Rattle.text.specs.Text.{placed, decimal};
 ghost use Rattle.printout.specs.Printout.{ended, limit-line, money-lines, data-lines, text-of, statement-text};
 
-// Puts a name with its space, a figure and a line feed into the buffer from place `at` on; answers the place after them.
+// Puts a name with its space, a figure and a line feed into the buffer from place `at` on, and answers the place after
+// them.
 fn put_line(name: &[u8], n: u64, at: usize, buf: &mut [u8]) -> usize
     requires { ⌜ at + length (now name) + 21 ≤ length (now buf) ⌝ }
     ensures end { λ r. ⌜ r ≡ at + length (ended (now (name .entry)) (decimal n)) ⌝ }
@@ -62,12 +62,12 @@ fn put_data(f: Figures, at: usize, buf: &mut [u8]) -> usize
     put_line(b"refused ", f.refused as u64, next, buf)
 }
 
-// Puts the text of a report at the start of the buffer, and answers its length. The nine names with their spaces have 53
-// bytes, a figure has 20 digits at most, and each line ends in a line feed: no text is longer than 242 bytes.
+// Puts the text of a report at the start of the buffer, and answers its length. The nine names with their spaces have
+// 53 bytes, a figure has 20 digits at most, and each line ends in a line feed: no text is longer than 242 bytes.
 pub fn put_report(r: Report, buf: &mut [u8; 242]) -> usize
     ensures end { λ k. ⌜ k ≡ length (text-of r) ⌝ }
     ensures room { λ k. ⌜ k ≤ length (now (buf .exit)) ⌝ }
-    ensures buffer { λ _. ⌜ now (buf .exit) ≡ text-of r ++ drop (length (text-of r)) (now (buf .entry)) ⌝ }
+    ensures buffer { λ _. ⌜ now (buf .exit) ≡ placed (now (buf .entry)) 0 (text-of r) ⌝ }
 {
     match r {
         Report::Lines(f) => {
@@ -82,7 +82,7 @@ pub fn put_report(r: Report, buf: &mut [u8; 242]) -> usize
 pub fn put_statement(file: &[u8], buf: &mut [u8; 242]) -> usize
     ensures end { λ k. ⌜ k ≡ length (statement-text (now (file .entry))) ⌝ }
     ensures room { λ k. ⌜ k ≤ length (now (buf .exit)) ⌝ }
-    ensures buffer { λ _. ⌜ now (buf .exit) ≡ statement-text (now (file .entry)) ++ drop (length (statement-text (now (file .entry)))) (now (buf .entry)) ⌝ }
+    ensures buffer { λ _. ⌜ now (buf .exit) ≡ placed (now (buf .entry)) 0 (statement-text (now (file .entry))) ⌝ }
 {
     let r = report::statement_of(file);
     put_report(r, buf)

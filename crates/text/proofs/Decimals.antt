@@ -1,7 +1,7 @@
 -- Laws of the decimal text of a number. Assumes nothing.
 use mathlib.Core.Path.{_≡_, refl, sym, _∙_, ap}
 use Prim.Native.Nat.{ℕ, zero, suc, _+_, _-_, _*_, _/_, _%_, _^_, _≤_, _<_}
-use mathlib.Core.Bool.{Bool, true, false, cond}
+use mathlib.Core.Bool.{Bool, true, false}
 use mathlib.Core.List.{List, [], _∷_, _++_}
 use native.Mathlib.Omega.{arith}
 use lib.ListN.{length, getD, set, length-append, List·getD-append}
@@ -9,7 +9,7 @@ use lib.Seq.{getD-append-seam}
 use lib.Dec.{ltb}
 use borrow.Author.Tests.{ltb-true, ltb-false, lt-ltb, le-ltb}
 use Rattle.text.specs.Text.{digit, decimal-in, decimal, placed}
-use Rattle.text.specs.Claims.{read-on, ReadsBack, DecimalReadsBack}
+use Rattle.text.specs.Claims.{read-on, DecimalReadsBack}
 use Rattle.text.proofs.Placing.{length-placed, placed-after, stored}
 
 -- ---- n steps are enough for n, so the text follows the rule without a bound of steps
@@ -85,13 +85,14 @@ u64-digits n h = few-digits 19 n (omega arith)
 pub put-digit : (buf : List ℕ) (a n : ℕ) → n < 10 → a + length (decimal n) ≤ length buf → set buf a (digit n) ≡ placed buf a (decimal n)
 put-digit buf a n h l = rw (decimal-small n h) (stored buf a (digit n) (omega (arith, length-small n h)))
 
-pub put-last : (buf : List ℕ) (a n : ℕ) → 10 ≤ n → a + length (decimal n) ≤ length buf
-    → set (placed buf a (decimal (n / 10))) (a + length (decimal (n / 10))) (digit (n % 10)) ≡ placed buf a (decimal n)
-put-last buf a n h l =
+pub put-last : (buf : List ℕ) (a n : ℕ) (b : List ℕ) (e d : ℕ) → 10 ≤ n → a + length (decimal n) ≤ length buf
+    → b ≡ placed buf a (decimal (n / 10)) → e ≡ a + length (decimal (n / 10)) → d ≡ digit (n % 10)
+    → set b e d ≡ placed buf a (decimal n)
+put-last buf a n b e d h l p q r =
     let s = decimal (n / 10) in
     let m = length-more n h in
     let k = length-placed buf a s (omega arith) in
-    stored (placed buf a s) (a + length s) (digit (n % 10)) (omega arith)
+    rw (p, q, r) (stored (placed buf a s) (a + length s) (digit (n % 10)) (omega arith))
     ∙ (placed-after buf a s (digit (n % 10) ∷ []) (omega arith) ∙ ap (placed buf a) (sym (decimal-more n h)))
 
 -- ---- it reads back

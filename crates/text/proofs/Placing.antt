@@ -1,12 +1,12 @@
 -- Laws of text that is put into a buffer. Assumes nothing.
 use mathlib.Core.Path.{_≡_, refl, sym, _∙_, ap}
-use Prim.Native.Nat.{ℕ, suc, _+_, _≤_, _<_}
+use Prim.Native.Nat.{ℕ, _+_, _≤_, _<_}
 use mathlib.Core.List.{List, [], _∷_, _++_, append-assoc}
 use native.Mathlib.Numerals.{add-one}
 use native.Mathlib.Omega.{arith}
-use native.Mathlib.Nat.{add-zero, zero-add}
+use native.Mathlib.Nat.{add-zero}
 use lib.ListN.{length, getD, set, take, drop, length-append, length-drop, take-append-drop}
-use lib.Seq.{take-at, drop-append-add, drop-drop, set-split, take-suc, take-all, length-take-le}
+use lib.Seq.{take-at, drop-append-add, drop-drop, set-split, take-suc, length-take-le}
 use Rattle.text.specs.Text.{placed}
 
 -- the buffer's length stays
@@ -21,11 +21,6 @@ length-placed buf a s h =
 pub placed-none : (buf : List ℕ) (a : ℕ) → placed buf a [] ≡ buf
 unfolding placed
 placed-none buf a = rw (add-zero a) (take-append-drop a buf)
-
--- text put at the start
-pub placed-first : (buf s : List ℕ) → placed buf 0 s ≡ s ++ drop (length s) buf
-unfolding placed
-placed-first buf s = rw (zero-add (length s)) refl
 
 -- text put after text is both put
 pub placed-after : (buf : List ℕ) (a : ℕ) (s t : List ℕ) → a + length s ≤ length buf

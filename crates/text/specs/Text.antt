@@ -1,7 +1,7 @@
 -- 01, "Figures": text as a list of bytes, numbers in decimal, and text in a buffer. Assumes nothing.
 use Prim.Native.Nat.{ℕ, zero, suc, _+_, _/_, _%_}
 use Prim.Native.Char.{code}
-use Prim.Native.String.{String, [] as ended, _∷_ as _then_}
+use Prim.Native.String.{String, [] as nothing, _∷_ as _then_}
 use mathlib.Core.Bool.{cond}
 use mathlib.Core.List.{List, [], _∷_, _++_}
 use lib.ListN.{length, take, drop}
@@ -9,7 +9,7 @@ use lib.Dec.{ltb}
 
 -- the bytes of a quoted text: the code of each of its characters, which are all of ASCII here
 abbrev pub ascii : String → List ℕ
-ascii ended = []
+ascii nothing = []
 ascii (c then s) = code c ∷ ascii s
 
 -- the byte of a digit: 48 is `0`, and the others follow

@@ -117,7 +117,7 @@ put-decimal-returns-2 t c =
     let n = b .args .n in
     let more = c .before .before .before .before .before .if1 .left in
     let e = c .before .before .before .put-decimal .ensures in
-    (omega (arith, length-more n more, e .0), rw (e .0, e .1, c .digit-byte2 .ensures) (put-last (b .args .buf .now) (b .args .at) n more (b .pre .1)))
+    (omega (arith, length-more n more, e .0), put-last (b .args .buf .now) (b .args .at) n _ _ _ more (b .pre .1) (e .1) (e .0) (c .digit-byte2 .ensures))
 
 pub +put-decimal-spec : {M : Type 1} → statement M
 +put-decimal-spec = close μ-put-decimal λ t. put-decimal-lts.spec (
