@@ -1,4 +1,6 @@
 // The proved meter with a C interface, for the comparison with the second implementation.
+pub mod writer;
+
 use account::Account;
 use account::AffordAnswer;
 use report::Figures;
