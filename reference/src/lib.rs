@@ -29,3 +29,4 @@ pub mod sides;
 pub mod statement;
 pub mod terms;
 pub mod tripfile;
+pub mod writes;

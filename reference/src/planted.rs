@@ -30,10 +30,16 @@ pub enum Wrong {
     RefusedNotCounted,
     /// Files are read whatever their sum is.
     SumNotChecked,
+    /// The writer clears the bytes after the file.
+    ClearsTheRest,
+    /// The writer looks at the room before it looks at the calls.
+    RoomBeforeCalls,
+    /// The writer looks at the calls before it looks at the plan.
+    CallsBeforePlan,
 }
 
 impl Wrong {
-    pub const ALL: [Wrong; 12] = [
+    pub const ALL: [Wrong; 15] = [
         Wrong::RoundsEachRecord,
         Wrong::LimitFromTopUp,
         Wrong::SurchargesTwice,
@@ -46,6 +52,9 @@ impl Wrong {
         Wrong::OneMoreThanVolume,
         Wrong::RefusedNotCounted,
         Wrong::SumNotChecked,
+        Wrong::ClearsTheRest,
+        Wrong::RoomBeforeCalls,
+        Wrong::CallsBeforePlan,
     ];
 }
 
