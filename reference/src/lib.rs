@@ -27,6 +27,7 @@ pub mod rng;
 pub mod services;
 pub mod sides;
 pub mod statement;
+pub mod stored;
 pub mod terms;
 pub mod tripfile;
 pub mod writes;

@@ -55,8 +55,9 @@ fn all_seeds(seed: u64, count: u64) -> Result<(Coverage, usize), Failed> {
     let workers = thread::available_parallelism().map_or(1, usize::from);
     let mut all = (Coverage::new(), 0);
     thread::scope(|scope| {
-        let work = || some_seeds(seed, count, &next);
-        let started: Vec<_> = (0..workers).map(|_| scope.spawn(work)).collect();
+        let next = &next;
+        let start = |worker| scope.spawn(move || some_seeds(seed, count, next, worker == 0));
+        let started: Vec<_> = (0..workers).map(start).collect();
         for worker in started {
             let (coverage, calls) = worker.join().expect("a check does not panic")?;
             all.0.merge(&coverage);
@@ -66,8 +67,14 @@ fn all_seeds(seed: u64, count: u64) -> Result<(Coverage, usize), Failed> {
     })
 }
 
-/// One worker: takes the next seed while there is one.
-fn some_seeds(seed: u64, count: u64, next: &AtomicU64) -> Result<(Coverage, usize), Failed> {
+/// One worker: takes the next seed while there is one. The first also tells
+/// how far all have come.
+fn some_seeds(
+    seed: u64,
+    count: u64,
+    next: &AtomicU64,
+    tells: bool,
+) -> Result<(Coverage, usize), Failed> {
     let (mut coverage, mut calls) = (Coverage::new(), 0);
     let (begun, mut shown) = (Instant::now(), Instant::now());
     loop {
@@ -77,7 +84,7 @@ fn some_seeds(seed: u64, count: u64, next: &AtomicU64) -> Result<(Coverage, usiz
         }
         let at = seed + done;
         calls += check_seed(at, &mut coverage).map_err(|what| (at, what))?;
-        if shown.elapsed() >= PROGRESS {
+        if tells && shown.elapsed() >= PROGRESS {
             shown = Instant::now();
             eprintln!("selfcheck: {done} trips, {} s", begun.elapsed().as_secs());
         }
