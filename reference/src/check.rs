@@ -254,6 +254,9 @@ fn check_file(rng: &mut Rng, events: &mut TripEvents) -> Result<(), Failure> {
         format!("file {number}, made for {:?}", sample.expected)
     })?;
     let finds = [PLAN_KIND, CALLS_KIND].map(|kind| tripfile::find(bytes, kind).err());
+    for found in finds {
+        events.find(found.unwrap_or(0))?;
+    }
     let agrees = match number {
         10..=12 => finds == [Some(number); 2],
         13 => finds.contains(&Some(13)),

@@ -30,7 +30,7 @@ const SPARED: [&str; 3] = [
 
 /// Every event that a set of random trips must reach. Refusal 0 cannot arise
 /// from a list, and 1 and 2 are those of files.
-pub const EVENTS: [&str; 65] = [
+pub const EVENTS: [&str; 70] = [
     "refusal 3",
     "refusal 4",
     "refusal 5",
@@ -47,6 +47,11 @@ pub const EVENTS: [&str; 65] = [
     "file 13",
     "file 14",
     "file 15",
+    "section found",
+    "find 10",
+    "find 11",
+    "find 12",
+    "find 13",
     "write accepted",
     "write 1",
     "write 2",
@@ -182,6 +187,20 @@ impl TripEvents {
             14 => "file 14",
             15 => "file 15",
             _ => return Err(format!("{number} is no number of reading")),
+        };
+        self.hit(event, true);
+        Ok(())
+    }
+
+    /// The number that finding a section gave, 0 if it was found; likewise.
+    pub fn find(&mut self, number: u32) -> Result<(), String> {
+        let event = match number {
+            0 => "section found",
+            10 => "find 10",
+            11 => "find 11",
+            12 => "find 12",
+            13 => "find 13",
+            _ => return Err(format!("{number} is no number of finding")),
         };
         self.hit(event, true);
         Ok(())

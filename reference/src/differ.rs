@@ -118,8 +118,9 @@ impl Differ {
         let afford = self.files.is_multiple_of(AFFORD_EVERY);
         self.files += 1;
         let number = self.compare(&sample.bytes, afford, &mut rng, &mut events)?;
-        let unknown = |what| Mismatch::other(what, sample.bytes);
-        events.file(number).map_err(unknown)?;
+        let told = events.file(number);
+        let told = told.and_then(|()| self.find(&sample.bytes, &mut rng, &mut events));
+        told.map_err(|what| Mismatch::other(what, sample.bytes))?;
         self.coverage.add(&events);
         Ok(())
     }
@@ -247,6 +248,23 @@ impl Differ {
         } else {
             Ok(())
         }
+    }
+
+    /// The sections of the usual kinds and of a random one.
+    fn find(&mut self, file: &[u8], rng: &mut Rng, events: &mut TripEvents) -> Result<(), Failure> {
+        for kind in [0, 1, 2, 3, 4, 7, u32::MAX, rng.word() as u32] {
+            let begun = Instant::now();
+            let ours = (REFERENCE.find)(file, kind);
+            self.times.reference += begun.elapsed();
+            let begun = Instant::now();
+            let theirs = (self.other.find)(file, kind);
+            self.times.other += begun.elapsed();
+            if ours != theirs {
+                return Err(format!("find of kind {kind} gave {theirs:?}, not {ours:?}"));
+            }
+            events.find(ours.number as u32)?;
+        }
+        Ok(())
     }
 
     /// Both writers, each on a copy of the buffer: the same answer, and the

@@ -36,10 +36,12 @@ pub enum Wrong {
     RoomBeforeCalls,
     /// The writer looks at the calls before it looks at the plan.
     CallsBeforePlan,
+    /// A section of another kind than plan and calls may be there twice.
+    OtherKindsTwice,
 }
 
 impl Wrong {
-    pub const ALL: [Wrong; 15] = [
+    pub const ALL: [Wrong; 16] = [
         Wrong::RoundsEachRecord,
         Wrong::LimitFromTopUp,
         Wrong::SurchargesTwice,
@@ -55,6 +57,7 @@ impl Wrong {
         Wrong::ClearsTheRest,
         Wrong::RoomBeforeCalls,
         Wrong::CallsBeforePlan,
+        Wrong::OtherKindsTwice,
     ];
 }
 

@@ -1,7 +1,7 @@
 //! The proved meter, linked as a static library. A slice passes as its
 //! pointer, then its length, an array as its pointer.
 
-use crate::sides::Side;
+use crate::sides::{Found, Side};
 use crate::terms::Kind;
 
 extern "C" {
@@ -16,12 +16,16 @@ extern "C" {
         buffer: *mut u8,
         buffer_len: usize,
     ) -> u64;
+    fn meter_find_number(file: *const u8, file_len: usize, kind: u32) -> u64;
+    fn meter_find_length(file: *const u8, file_len: usize, kind: u32) -> usize;
+    fn meter_find_sum(file: *const u8, file_len: usize, kind: u32) -> u32;
 }
 
 /// The proved meter.
 pub const SIDE: Side = Side {
     statement,
     write,
+    find,
     afford,
 };
 
@@ -48,5 +52,17 @@ pub fn write(plan: &[u64; 7], codes: &[u32], numbers: &[u32], buffer: &mut [u8])
             buffer.as_mut_ptr(),
             buffer.len(),
         )
+    }
+}
+
+pub fn find(file: &[u8], kind: u32) -> Found {
+    let (bytes, len) = (file.as_ptr(), file.len());
+    // SAFETY: the slice is whole, and the meter does not keep it.
+    unsafe {
+        Found {
+            number: meter_find_number(bytes, len, kind),
+            length: meter_find_length(bytes, len, kind),
+            sum: meter_find_sum(bytes, len, kind),
+        }
     }
 }

@@ -18,6 +18,15 @@ pub const WRITE_REFUSED: u64 = 1_000_000;
 /// The answer to a statement with room for fewer than ten figures.
 pub const NO_ROOM: u64 = 1000;
 
+/// What finding a section gives: 0, the length of the part and the wrapping
+/// sum of its words; or the number that declines it, and an empty part.
+#[derive(Clone, Copy, PartialEq, Eq, Debug)]
+pub struct Found {
+    pub number: u64,
+    pub length: usize,
+    pub sum: u32,
+}
+
 /// A meter.
 #[derive(Clone, Copy, Debug)]
 pub struct Side {
@@ -28,6 +37,8 @@ pub struct Side {
     /// buffer: the number of bytes; or 1,000,000 and the number that declines
     /// it, the buffer then unchanged. A form above 1 is unlimited.
     pub write: Writer,
+    /// The section of a kind.
+    pub find: fn(&[u8], u32) -> Found,
     /// Afford of a kind after the file's calls, asked that many times.
     pub afford: fn(&[u8], Kind, u64) -> u64,
 }
@@ -36,6 +47,7 @@ pub struct Side {
 pub const REFERENCE: Side = Side {
     statement,
     write,
+    find,
     afford,
 };
 
@@ -68,6 +80,16 @@ fn write(words: &[u64; 7], codes: &[u32], numbers: &[u32], buffer: &mut [u8]) ->
     match tripfile::write(&plan, codes, numbers, buffer) {
         Ok(bytes) => bytes as u64,
         Err(number) => WRITE_REFUSED + u64::from(number),
+    }
+}
+
+fn find(file: &[u8], kind: u32) -> Found {
+    let found = tripfile::find(file, kind);
+    let part = found.unwrap_or(&[]);
+    Found {
+        number: found.err().map_or(0, u64::from),
+        length: part.len(),
+        sum: tripfile::word_sum(part),
     }
 }
 

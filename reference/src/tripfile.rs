@@ -82,8 +82,9 @@ fn entry(bytes: &[u8], at: usize) -> Entry {
 /// 13: the body of the kind, if it is there just once.
 fn only<'a>(bytes: &'a [u8], entries: &[Entry], kind: u32) -> Result<&'a [u8], u32> {
     let mut found = entries.iter().filter(|entry| entry.kind == kind);
+    let lenient = planted(Wrong::OtherKindsTwice) && kind > CALLS_KIND;
     match (found.next(), found.next()) {
-        (Some(entry), None) => {
+        (Some(entry), more) if more.is_none() || lenient => {
             Ok(&bytes[entry.start as usize..(entry.start + entry.length) as usize])
         }
         _ => Err(13),

@@ -152,12 +152,24 @@ fn unknown_numbers_are_failures() {
     for number in [3, 9, 16, 17, u32::MAX] {
         assert!(events.file(number).is_err());
     }
+    assert!(events.find(0).is_ok() && events.find(14).is_err());
     for number in [0, 1, 2, 14, 15, 16] {
         assert_eq!(events.write(number), Ok(()));
     }
     for number in [3, 10, 13, 17] {
         assert!(events.write(number).is_err());
     }
+}
+
+/// A finder that takes kind 3 for kind 4.
+#[test]
+fn a_section_of_another_kind_is_found() {
+    let find = |file: &[u8], kind: u32| match kind {
+        4 => (REFERENCE.find)(file, 3),
+        _ => (REFERENCE.find)(file, kind),
+    };
+    let other = Side { find, ..REFERENCE };
+    assert!(found(other).starts_with("find of kind 4 gave "));
 }
 
 #[test]

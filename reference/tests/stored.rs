@@ -123,8 +123,8 @@ fn the_largest_file_takes_all_services_through_all_states() {
     for (code, number) in trip.calls {
         let before = account.states;
         let _ = account.apply(Call::from_words(code, number).unwrap());
-        for service in 0..3 {
-            match (before[service], account.states[service]) {
+        for (service, states) in before.into_iter().zip(account.states).enumerate() {
+            match states {
                 (State::Clear, State::Warned(_)) => steps.insert((service, 0)),
                 (State::Warned(_), State::Surcharged) => steps.insert((service, 1)),
                 (State::Surcharged, State::Clear) => steps.insert((service, 2)),
