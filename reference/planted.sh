@@ -3,7 +3,7 @@
 # that the comparison with the proved meter finds it within 1,000 trips.
 # planted.sh [SEED]
 set -eu
-cd "$(dirname "$0")"
+CDPATH= cd -- "$(dirname -- "$0")"
 seed=${1:-1}
 target=${CARGO_TARGET_DIR:-target}/planted
 cargo build --release --quiet --features planted --bin differ --target-dir "$target"

@@ -7,7 +7,7 @@ if [ "$#" -ne 1 ] || [ ! -x "$1" ]; then
     echo "usage: statement_cases.sh PROGRAM" >&2
     exit 2
 fi
-cases=$(cd "$(dirname "$0")/../examples/statement" && pwd)
+cases=$(CDPATH= cd -- "$(dirname -- "$0")/../examples/statement" && pwd)
 scratch=$(mktemp -d)
 trap 'rm -rf "$scratch"' EXIT
 inputs=0

@@ -224,7 +224,7 @@ fn trips() -> Vec<StoredCase> {
         case("limit_none", "a bundle that is not open: no limit", file(closed, &limit_none)),
         case(
             "past_the_limit",
-            "an unlimited bundle, 20,000,000 zone kB a day: two days of each month are accepted, the second partly past L",
+            "unlimited, 20,000,000 zone kB a day: two days a month are accepted, the second partly past L",
             file(unlimited, &heavy),
         ),
     ]
