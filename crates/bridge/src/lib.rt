@@ -1,4 +1,7 @@
 // The proved meter with a C interface, for the comparison with the second implementation.
+pub mod finder;
+pub mod writer;
+
 use account::Account;
 use account::AffordAnswer;
 use report::Figures;
