@@ -30,7 +30,7 @@ const SPARED: [&str; 3] = [
 
 /// Every event that a set of random trips must reach. Refusal 0 cannot arise
 /// from a list, and 1 and 2 are those of files.
-pub const EVENTS: [&str; 70] = [
+pub const EVENTS: [&str; 71] = [
     "refusal 3",
     "refusal 4",
     "refusal 5",
@@ -98,6 +98,7 @@ pub const EVENTS: [&str; 70] = [
     "cost equal to credit",
     "afford 0",
     "afford the most",
+    "afford refused, 3",
     "empty list",
     "another list with the same stretches",
     "the same cuts with other stretches",
@@ -225,6 +226,7 @@ impl TripEvents {
     /// one after it.
     pub fn call(&mut self, before: &Account, call: Call, got: &Result<Answer, u32>, now: &Account) {
         match (got, call) {
+            (Err(number), Call::Afford(_)) => self.hit("afford refused, 3", *number == 3),
             (Err(number), _) => self.hit(REFUSALS[*number as usize], true),
             (Ok(_), Call::Use(kind, n)) => self.used(before, kind, n, got, now),
             (Ok(_), Call::Register(place)) => self.registered(before, place, now),

@@ -17,6 +17,9 @@ pub struct StoredCase {
     pub bytes: Vec<u8>,
 }
 
+/// Where the inputs of `statement` are, by pairs NAME.trip and NAME.out.
+pub const STATEMENT_FOLDER: &str = "examples/statement";
+
 /// Code and number of a call.
 type Words = (u32, u32);
 
@@ -55,8 +58,9 @@ const OF_STATEMENT: [&str; 14] = [
 
 /// All cases, in the order in which they are stored.
 pub fn cases() -> Vec<StoredCase> {
-    let mut all = bad_files();
-    all.splice(0..0, [case("ferry", "the example of 01", ferry())]);
+    let mut all = vec![case("ferry", "the example of 01", ferry())];
+    all.extend(bad_tables());
+    all.extend(bad_bodies());
     all.extend(trips());
     all.extend(service_trips());
     all.extend(large_files());
@@ -83,13 +87,15 @@ fn file(plan: [u32; 7], calls: &[Words]) -> Vec<u8> {
     bytes
 }
 
+/// The body of a calls section.
+fn calls_body(calls: &[Words]) -> Vec<u8> {
+    let words = calls.iter().flat_map(|(code, number)| [*code, *number]);
+    to_bytes(&words.collect::<Vec<u32>>())
+}
+
 /// The file of a plan body and of calls of any words.
 fn any_file(plan: &[u32], calls: &[Words]) -> Vec<u8> {
-    let words: Vec<u32> = calls
-        .iter()
-        .flat_map(|(code, number)| [*code, *number])
-        .collect();
-    assemble(&[(1, to_bytes(plan)), (2, to_bytes(&words))])
+    assemble(&[(1, to_bytes(plan)), (2, calls_body(calls))])
 }
 
 fn ferry() -> Vec<u8> {
@@ -111,8 +117,8 @@ fn ferry_and(call: Words) -> Vec<u8> {
     any_file(&FERRY_PLAN, &calls)
 }
 
-/// Each number that reading gives.
-fn bad_files() -> Vec<StoredCase> {
+/// Bad files: 10 to 13.
+fn bad_tables() -> Vec<StoredCase> {
     let mut longer = ferry();
     longer.extend([0; 4]);
     let mut other_day = ferry();
@@ -121,7 +127,6 @@ fn bad_files() -> Vec<StoredCase> {
     let mut wraps = ferry_with(4, 36 + half);
     set(&mut wraps, 5, 28 + half);
     resum(&mut wraps);
-    let longer_plan = [&FERRY_PLAN[..], &[0]].concat();
     vec![
         case("empty", "10: no bytes at all", Vec::new()),
         case(
@@ -160,6 +165,13 @@ fn bad_files() -> Vec<StoredCase> {
             "13: a section of kind 3 in the place of the calls",
             ferry_with(6, 3),
         ),
+    ]
+}
+
+/// Bad files: 14, 15, 1 and 2.
+fn bad_bodies() -> Vec<StoredCase> {
+    let longer_plan = [&FERRY_PLAN[..], &[0]].concat();
+    vec![
         case(
             "plan_of_32_bytes",
             "14: the plan section has 32 bytes",
@@ -196,12 +208,8 @@ fn bad_files() -> Vec<StoredCase> {
 }
 
 fn trips() -> Vec<StoredCase> {
-    let calls: Vec<u32> = FERRY_CALLS
-        .iter()
-        .flat_map(|(code, number)| [*code, *number])
-        .collect();
     let turned = assemble(&[
-        (2, to_bytes(&calls)),
+        (2, calls_body(&FERRY_CALLS)),
         (1, to_bytes(&FERRY_PLAN)),
         (9, to_bytes(&[1, 2, 3])),
     ]);
@@ -220,11 +228,19 @@ fn trips() -> Vec<StoredCase> {
         heavy.extend([(2, 20_000_000), NEXT_DAY]);
     }
     vec![
-        case("calls_first", "the example with the calls first and a section of kind 9", turned),
-        case("limit_none", "a bundle that is not open: no limit", file(closed, &limit_none)),
+        case(
+            "calls_first",
+            "the example with the calls first and a section of kind 9",
+            turned,
+        ),
+        case(
+            "limit_none",
+            "a bundle that is not open: no limit",
+            file(closed, &limit_none),
+        ),
         case(
             "past_the_limit",
-            "unlimited, 20,000,000 zone kB a day: two days a month are accepted, the second partly past L",
+            "unlimited, 20,000,000 zone kB a day: two a month accepted, the second partly past L",
             file(unlimited, &heavy),
         ),
     ]
@@ -447,9 +463,6 @@ pub fn files() -> Vec<(String, Vec<u8>)> {
     }
     all
 }
-
-/// Where the inputs of `statement` are, by pairs NAME.trip and NAME.out.
-pub const STATEMENT_FOLDER: &str = "examples/statement";
 
 /// The case of a name.
 pub fn named(name: &str) -> StoredCase {
