@@ -1,0 +1,81 @@
+# Used by ./statement and ./test: the toolchain's version, one build at a time, and a build that shows how far it is.
+# `here` is the top of the repository. What is said of the work goes to standard error.
+
+logs=$here/logs
+
+# Nothing, or what to say where another toolchain is found than the one that the proofs were made with.
+other_toolchain() {
+    made=$(cat "$here/toolchain")
+    found=$(rt version 2>/dev/null) || found='no rt on the path'
+    [ "$found" = "$made" ] || printf 'the proofs were made with "%s", and here is "%s"\n' "$made" "$found"
+}
+
+# Takes the lock on target/, which is kept until the script and all that it started have ended.
+lock() { # NAME
+    mkdir -p "$logs" && exec 9>>"$logs/lock" || return 1
+    flock -n 9 && return
+    echo "$1: waiting for another build or test of this repository to end" >&2
+    flock 9
+}
+
+# How many crates of the repository NAME needs, itself among them.
+count_of() { # NAME
+    awk -v want="$1" '
+        { sub(/#.*/, ""); at = index($0, ":"); if (!at) next
+          name = substr($0, 1, at - 1); gsub(/[ \t]/, "", name); deps[name] = substr($0, at + 1) }
+        function visit(n, parts, k, m) {
+            if (!(n in deps) || n in seen) return
+            seen[n] = 1; count++
+            m = split(deps[n], parts, " ")
+            for (k = 1; k <= m; k++) visit(parts[k])
+        }
+        END { visit(want); print count + 0 }' "$here/crates.txt"
+}
+
+# Was the program built from the sources as they are, with this toolchain?
+fresh() { # NAME
+    [ -x "$here/target/bin/$1" ] && [ -f "$here/target/built-$1" ] || return 1
+    now=$(rt version 2>/dev/null) && [ "$now" != "$(cat "$here/target/built-$1")" ] && return 1
+    changed=$(find "$here/crates.txt" "$here/crates" \( -name edits -o -name must-fail \) -prune -o \
+        -newer "$here/target/built-$1" -print 2>/dev/null | head -n 1)
+    [ -z "$changed" ]
+}
+
+# Shows each crate of a build as it ends; those that did not change are only counted.
+show_build() { # NAME COUNT
+    number=0
+    while IFS= read -r line; do
+        case $line in
+        'rt: '*' proved (unchanged'*) number=$((number + 1)) ;;
+        'rt: '*' proved ('* | 'rt: '*' NOT PROVED'*)
+            number=$((number + 1))
+            echo "$1: crate $number of $2: ${line#rt: }" >&2
+            ;;
+        esac
+    done
+}
+
+# Builds the program NAME where it is missing or older than its sources.
+built() { # NAME
+    ! fresh "$1" || return 0
+    command -v rt >/dev/null || { echo "$1: the program has to be built, and rt is not on the path" >&2; return 1; }
+    lock "$1" || { echo "$1: cannot lock $logs/lock" >&2; return 1; }
+    if fresh "$1"; then # another build was waited for
+        exec 9>&-
+        return 0
+    fi
+    what=$(other_toolchain)
+    [ -z "$what" ] || echo "$1: warning: $what" >&2
+    log=$logs/build-$1.log
+    echo "$1: building, as the program is missing or its sources changed; from nothing it takes some minutes" >&2
+    mkdir -p "$here/target"
+    rt version >"$here/target/.began-$1"
+    { (cd "$here" && rt check "$1") </dev/null 2>&1; echo "exit $?"; } | tee "$log" | show_build "$1" "$(count_of "$1")"
+    if [ "$(tail -n 1 "$log")" != "exit 0" ] || [ ! -x "$here/target/bin/$1" ]; then
+        echo "$1: the build failed; the last lines of $log:" >&2
+        tail -n 12 "$log" | cut -c 1-200 | sed 's/^/    /' >&2
+        return 1
+    fi
+    mv "$here/target/.began-$1" "$here/target/built-$1"
+    exec 9>&-
+}

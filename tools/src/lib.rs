@@ -1,0 +1,8 @@
+//! What `./test` needs besides the toolchain: the runner of edits and the check of the list of claims.
+pub mod claims;
+pub mod edit;
+pub mod folder;
+pub mod list;
+pub mod runner;
+pub mod statements;
+pub mod verdict;

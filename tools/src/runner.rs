@@ -1,0 +1,191 @@
+//! Tries the edits of crates: each worker has a copy of the repository, in which a crate is checked once as it is, then
+//! with each of its edits over the same incremental folder, and last again as it is.
+use crate::edit;
+use crate::folder;
+use crate::list::{Crate, Edit};
+use crate::verdict::{judge, Verdict};
+use std::fs;
+use std::path::{Path, PathBuf};
+use std::process::{Command, Stdio};
+use std::sync::Mutex;
+use std::time::Instant;
+
+pub struct Run {
+    pub root: PathBuf,
+    pub logs: PathBuf,
+    pub workers: usize,
+}
+
+/// What was tried so far.
+struct Board {
+    queue: Vec<Crate>,
+    total: usize,
+    tried: usize,
+    wrong: Vec<String>,
+}
+
+/// How many edits were tried, and a line for each thing that is not as it must be.
+pub struct Outcome {
+    pub tried: usize,
+    pub wrong: Vec<String>,
+}
+
+pub fn run(settings: &Run, crates: Vec<Crate>) -> Result<Outcome, String> {
+    let total = crates.iter().map(|c| c.edits.len()).sum();
+    let mut queue = crates;
+    queue.reverse();
+    let workers = settings.workers.clamp(1, queue.len().max(1));
+    let board = Mutex::new(Board {
+        queue,
+        total,
+        tried: 0,
+        wrong: Vec::new(),
+    });
+    let base = settings.root.join("target/edits");
+    let _ = fs::remove_dir_all(&base);
+    std::thread::scope(|scope| {
+        for number in 0..workers {
+            let (board, dir) = (&board, base.join(number.to_string()));
+            scope.spawn(move || work(settings, board, &dir));
+        }
+    });
+    let _ = fs::remove_dir_all(&base);
+    let board = board.into_inner().map_err(|e| e.to_string())?;
+    Ok(Outcome {
+        tried: board.tried,
+        wrong: board.wrong,
+    })
+}
+
+fn work(settings: &Run, board: &Mutex<Board>, dir: &Path) {
+    if let Err(e) = folder::copy_repository(&settings.root, dir) {
+        note(
+            board,
+            format!("cannot copy the repository to {}: {e}", dir.display()),
+        );
+        return;
+    }
+    loop {
+        let next = board.lock().expect("no worker panics").queue.pop();
+        match next {
+            Some(c) => try_crate(settings, board, dir, &c),
+            None => return,
+        }
+    }
+}
+
+fn note(board: &Mutex<Board>, line: String) {
+    println!("edits: {line}");
+    board.lock().expect("no worker panics").wrong.push(line);
+}
+
+fn try_crate(settings: &Run, board: &Mutex<Board>, dir: &Path, c: &Crate) {
+    let log = |name: &str| settings.logs.join(&c.name).join(format!("{name}.log"));
+    if !as_it_is(board, dir, c, "before its edits", &log("_before")) {
+        return;
+    }
+    for e in &c.edits {
+        try_edit(board, dir, c, e, &log(&e.name));
+    }
+    as_it_is(
+        board,
+        dir,
+        c,
+        "after its edits, over the same folder",
+        &log("_after"),
+    );
+}
+
+/// The crate without an edit must be proved.
+fn as_it_is(board: &Mutex<Board>, dir: &Path, c: &Crate, when: &str, log: &Path) -> bool {
+    let began = Instant::now();
+    let verdict = check(dir, &c.name, log);
+    let took = began.elapsed().as_secs_f64();
+    match verdict {
+        Verdict::Proved => {
+            println!("edits: {} proved {when} ({took:.1} s)", c.name);
+            true
+        }
+        Verdict::Refused(m) | Verdict::Hollow(m) | Verdict::Failed(m) => {
+            note(
+                board,
+                format!(
+                    "{} is NOT PROVED {when} ({took:.1} s): {}",
+                    c.name,
+                    short(&m)
+                ),
+            );
+            false
+        }
+    }
+}
+
+fn try_edit(board: &Mutex<Board>, dir: &Path, c: &Crate, e: &Edit, log: &Path) {
+    let began = Instant::now();
+    let verdict = match edit::apply(&dir.join("crates").join(&c.name), &e.replacements) {
+        Err(m) => Verdict::Failed(format!("the edit does not fit: {m}")),
+        Ok(applied) => {
+            let verdict = check(dir, &c.name, log);
+            match applied.put_back() {
+                Ok(()) => verdict,
+                Err(m) => Verdict::Failed(format!("the file cannot be put back: {m}")),
+            }
+        }
+    };
+    let took = began.elapsed().as_secs_f64();
+    let (right, said) = match verdict {
+        Verdict::Refused(m) => (true, format!("refused ({took:.1} s): {}", short(&m))),
+        Verdict::Proved => (
+            false,
+            format!("NOT REFUSED ({took:.1} s): the crate is proved with this edit"),
+        ),
+        Verdict::Hollow(m) => (
+            false,
+            format!("REFUSED FOR ITS SHAPE ALONE ({took:.1} s): {}", short(&m)),
+        ),
+        Verdict::Failed(m) => (false, format!("NOT TRIED ({took:.1} s): {}", short(&m))),
+    };
+    let mut b = board.lock().expect("no worker panics");
+    b.tried += 1;
+    println!(
+        "edits: {} of {} {}/{} {said}",
+        b.tried, b.total, c.name, e.name
+    );
+    if !right {
+        b.wrong.push(format!("{}/{} {said}", c.name, e.name));
+    }
+}
+
+/// Runs `rt dev` on the crate in the worker's copy and keeps what it said.
+fn check(dir: &Path, name: &str, log: &Path) -> Verdict {
+    let ended = Command::new("rt")
+        .args(["dev", name])
+        .current_dir(dir)
+        .stdin(Stdio::null())
+        .output();
+    let out = match ended {
+        Ok(out) => out,
+        Err(e) => return Verdict::Failed(format!("rt cannot be run: {e}")),
+    };
+    let text = format!(
+        "{}{}",
+        String::from_utf8_lossy(&out.stdout),
+        String::from_utf8_lossy(&out.stderr)
+    );
+    let folder = log.parent().unwrap_or(Path::new("."));
+    if let Err(e) = fs::create_dir_all(folder).and_then(|()| fs::write(log, &text)) {
+        return Verdict::Failed(format!("cannot write {}: {e}", log.display()));
+    }
+    let own = format!("{}/", dir.join("crates").join(name).display());
+    judge(out.status.code(), &text.replace(&own, ""))
+}
+
+/// The start of a message, which can run to thousands of characters.
+fn short(message: &str) -> String {
+    let cut: String = message.chars().take(150).collect();
+    if cut.len() < message.len() {
+        format!("{cut} ...")
+    } else {
+        cut
+    }
+}

@@ -1,0 +1,114 @@
+//! What the checker said of an edited crate, from its exit status and its output.
+
+#[derive(Debug, PartialEq, Eq)]
+pub enum Verdict {
+    /// The crate is proved.
+    Proved,
+    /// Not proved; the first message says why.
+    Refused(String),
+    /// Not proved, but only because the edited text itself is wrong, or the proof no longer fits its shape.
+    Hollow(String),
+    /// It did not come to a proof: the compiler or the toolchain failed.
+    Failed(String),
+}
+
+/// Messages of a proof that names what the edited code no longer has: such a refusal shows nothing.
+const HOLLOW: [&str; 4] = [
+    "has no `Need-",
+    "can be named from here",
+    "has no field",
+    "not in scope",
+];
+
+pub fn judge(status: Option<i32>, output: &str) -> Verdict {
+    let logic = output.lines().find_map(|line| line.strip_prefix("logic="));
+    let first = first_message(output);
+    match (status, logic) {
+        (Some(0), Some(l)) if starts_word(l, "proved") => Verdict::Proved,
+        (Some(1), Some(l)) if starts_word(l, "not-proved") => {
+            let of_the_edit = ["specs/", "src/"]
+                .iter()
+                .any(|part| first.starts_with(part));
+            if of_the_edit || HOLLOW.iter().any(|text| first.contains(text)) {
+                Verdict::Hollow(first)
+            } else {
+                Verdict::Refused(first)
+            }
+        }
+        (Some(code), _) => Verdict::Failed(format!("exit {code}: {first}")),
+        (None, _) => Verdict::Failed(format!("stopped by a signal: {first}")),
+    }
+}
+
+fn starts_word(line: &str, word: &str) -> bool {
+    line.split_whitespace().next() == Some(word)
+}
+
+/// The first line with an error of its own, or else what a function is told not to keep, or else the first one not proved.
+pub fn first_message(output: &str) -> String {
+    let with = |part: &str| {
+        output
+            .lines()
+            .find(|line| line.contains(part) && !line.contains(FOLLOWS))
+    };
+    let line = with(": error")
+        .or_else(|| with("it is not proved"))
+        .or_else(|| with("not proved"));
+    line.or(output.lines().next())
+        .unwrap_or("it said nothing")
+        .trim()
+        .to_string()
+}
+
+/// In the message of a proof that only rests on one that failed.
+const FOLLOWS: &str = "was not admitted (it has holes";
+
+#[cfg(test)]
+mod tests {
+    use super::*;
+
+    #[test]
+    fn a_proved_crate_is_not_refused() {
+        assert_eq!(
+            judge(Some(0), "fn a: proved\nlogic=proved fns=3\n"),
+            Verdict::Proved
+        );
+    }
+
+    #[test]
+    fn a_fact_that_fails_is_a_refusal() {
+        let out = "proofs/f/Proof.antt:3:1: error: omega fails at x\nlogic=not-proved\n";
+        assert!(matches!(judge(Some(1), out), Verdict::Refused(m) if m.contains("omega")));
+    }
+
+    #[test]
+    fn a_proof_that_only_became_unfit_shows_nothing() {
+        let out = "proofs/f/Proof.antt:3:1: error: f has no `Need-2`\nlogic=not-proved\n";
+        assert!(matches!(judge(Some(1), out), Verdict::Hollow(_)));
+        let out = "specs/Moves.antt:3:1: error: `f`: a type\nlogic=not-proved\n";
+        assert!(matches!(judge(Some(1), out), Verdict::Hollow(_)));
+    }
+
+    #[test]
+    fn what_only_follows_is_passed_over() {
+        let out = "a: error: `f` was not admitted (it has holes or\nnote: src/lib.rt:1:1: it is not proved that\nlogic=not-proved\n";
+        assert!(matches!(judge(Some(1), out), Verdict::Refused(m) if m.starts_with("note: src")));
+    }
+
+    #[test]
+    fn no_verdict_is_a_failure() {
+        assert!(matches!(
+            judge(Some(1), "src/lib.rt:3:1: error: expected `;`\n"),
+            Verdict::Failed(_)
+        ));
+        assert!(matches!(
+            judge(Some(2), "logic=not-proved\n"),
+            Verdict::Failed(_)
+        ));
+        assert!(matches!(
+            judge(Some(0), "logic=not-proved\n"),
+            Verdict::Failed(_)
+        ));
+        assert!(matches!(judge(None, ""), Verdict::Failed(_)));
+    }
+}
