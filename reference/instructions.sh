@@ -2,7 +2,7 @@
 # Instructions of the proved meter for each call, by the difference of two
 # numbers of calls, and the share of them that copies memory.
 set -eu
-cd "$(dirname "$0")"
+CDPATH= cd -- "$(dirname -- "$0")"
 target=${CARGO_TARGET_DIR:-target}
 cargo build --release --quiet --bin bench --target-dir "$target"
 bench=$(cd "$target" && pwd)/release/bench

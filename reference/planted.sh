@@ -3,7 +3,7 @@
 # that the comparison with the proved meter finds it within 1,000 trips.
 # planted.sh [SEED]
 set -eu
-cd "$(dirname "$0")"
+CDPATH= cd -- "$(dirname -- "$0")"
 seed=${1:-1}
 target=${CARGO_TARGET_DIR:-target}/planted
 cargo build --release --quiet --features planted --bin differ --target-dir "$target"
@@ -22,21 +22,27 @@ run none || {
     echo "planted: the meters differ without a wrong rule, or the comparison does not run"
     exit 1
 }
+rule=1
 missed=0
-for rule in 1 2 3 4 5 6 7 8 9 10 11 12; do
+all=1
+while [ "$rule" -le "$all" ]; do
     status=0
     run "$rule" || status=$?
-    name=$(sed -n "s/^differ: wrong rule $rule, //p" err)
+    name=$(sed -n "s/^differ: wrong rule $rule of [0-9]*, //p" err)
     if [ -z "$name" ]; then
         echo "planted: rule $rule was not planted"
-        missed=$((missed + 1))
-    elif [ "$status" -eq 1 ] && grep -q ' 1 mismatch$' out; then
-        trips=$(sed -n 's/^differ: \([0-9]* trips, [0-9]* files\), 1 mismatch$/\1/p' out)
-        echo "$rule $name: found after $trips ($(sed -n 's/^seed [0-9]*, //p' out))"
+        exit 1
+    fi
+    all=$(sed -n "s/^differ: wrong rule $rule of \([0-9]*\), .*/\1/p" err)
+    if [ "$status" -eq 1 ] && grep -q ' 1 mismatch$' out; then
+        after=$(sed -n 's/^differ: \(.*\), 1 mismatch$/\1/p' out)
+        what=$(sed -n 's/^seed [0-9]*, //p' out | sed 's/ (plan.*//')
+        echo "$rule $name: found after $after ($what)"
     else
         echo "$rule $name: NOT found within 1,000 trips"
         missed=$((missed + 1))
     fi
+    rule=$((rule + 1))
 done
-echo "planted: 12 wrong rules, $missed not found"
+echo "planted: $all wrong rules, $missed not found (seed $seed)"
 [ "$missed" -eq 0 ]

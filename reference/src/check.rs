@@ -8,9 +8,11 @@ use crate::matching;
 use crate::meter::{Account, Answer};
 use crate::rng::Rng;
 use crate::services::State;
+use crate::sides::{REFERENCE, WRITE_REFUSED};
 use crate::statement::{lines, statement};
 use crate::terms::{Call, Kind};
 use crate::tripfile::{self, Trip, BEFORE_CALLS, CALLS_KIND, MAX_CALLS, PLAN_KIND};
+use crate::writes::WriteCase;
 
 /// What a check that failed says.
 pub type Failure = String;
@@ -33,6 +35,7 @@ pub fn check_seed(seed: u64, coverage: &mut Coverage) -> Result<usize, Failure> 
     check_pairs(&case, &mut rng, &mut events)?;
     for _ in 0..3 {
         check_file(&mut rng, &mut events)?;
+        check_write(&mut rng, &mut events)?;
     }
     coverage.add(&events);
     Ok(case.calls.len())
@@ -175,7 +178,7 @@ fn check_round_trip(case: &Case, rng: &mut Rng) -> Result<(), Failure> {
     let (codes, numbers): (Vec<u32>, Vec<u32>) = calls.iter().copied().unzip();
     let need = BEFORE_CALLS + 8 * calls.len();
     let room = need + rng.below(20) as usize;
-    let mut buffer: Vec<u8> = (0..room).map(|_| rng.word() as u8).collect();
+    let mut buffer = rng.bytes(room);
     let old = buffer.clone();
     let got = tripfile::write(&case.plan, &codes, &numbers, &mut buffer);
     if calls.is_empty() || calls.len() > MAX_CALLS {
@@ -245,12 +248,15 @@ fn check_file(rng: &mut Rng, events: &mut TripEvents) -> Result<(), Failure> {
     let bytes = &sample.bytes;
     let got = tripfile::read(bytes);
     let number = got.as_ref().err().copied().unwrap_or(0);
-    events.file(number);
+    events.file(number)?;
     let right = sample.expected.is_none_or(|expected| expected == number);
     demand(right, || {
         format!("file {number}, made for {:?}", sample.expected)
     })?;
     let finds = [PLAN_KIND, CALLS_KIND].map(|kind| tripfile::find(bytes, kind).err());
+    for found in finds {
+        events.find(found.unwrap_or(0))?;
+    }
     let agrees = match number {
         10..=12 => finds == [Some(number); 2],
         13 => finds.contains(&Some(13)),
@@ -261,5 +267,30 @@ fn check_file(rng: &mut Rng, events: &mut TripEvents) -> Result<(), Failure> {
     let bad = format!("file {number}\n");
     demand((printed == bad) == (number != 0), || {
         format!("file {number}, statement {printed:?}")
+    })
+}
+
+/// A random write gets the number that it was made for. A refusal leaves the
+/// buffer, and what is written leaves the bytes behind it and is read again.
+fn check_write(rng: &mut Rng, events: &mut TripEvents) -> Result<(), Failure> {
+    let case = WriteCase::random(rng);
+    let mut buffer = case.buffer.clone();
+    let answer = case.run(REFERENCE.write, &mut buffer);
+    events.write(case.expected)?;
+    let length = match case.expected {
+        0 => BEFORE_CALLS + 8 * case.codes.len(),
+        number => {
+            let right = answer == WRITE_REFUSED + u64::from(number) && buffer == case.buffer;
+            return demand(right, || format!("write {answer}, {}", case.outline()));
+        }
+    };
+    let right = answer == length as u64 && buffer[length..] == case.buffer[length..];
+    demand(right, || format!("write {answer}, {}", case.outline()))?;
+    let read = tripfile::read(&buffer[..length]).map(|trip| WriteCase::again(&trip, rng));
+    let same = |again: &WriteCase| {
+        again.plan == case.plan && again.codes == case.codes && again.numbers == case.numbers
+    };
+    demand(read.as_ref().is_ok_and(same), || {
+        format!("written and read otherwise, {}", case.outline())
     })
 }

@@ -30,7 +30,7 @@ const SPARED: [&str; 3] = [
 
 /// Every event that a set of random trips must reach. Refusal 0 cannot arise
 /// from a list, and 1 and 2 are those of files.
-pub const EVENTS: [&str; 59] = [
+pub const EVENTS: [&str; 71] = [
     "refusal 3",
     "refusal 4",
     "refusal 5",
@@ -47,6 +47,17 @@ pub const EVENTS: [&str; 59] = [
     "file 13",
     "file 14",
     "file 15",
+    "section found",
+    "find 10",
+    "find 11",
+    "find 12",
+    "find 13",
+    "write accepted",
+    "write 1",
+    "write 2",
+    "write 14",
+    "write 15",
+    "write 16",
     "data warned",
     "calls warned",
     "SMS warned",
@@ -87,6 +98,7 @@ pub const EVENTS: [&str; 59] = [
     "cost equal to credit",
     "afford 0",
     "afford the most",
+    "afford refused, 3",
     "empty list",
     "another list with the same stretches",
     "the same cuts with other stretches",
@@ -124,6 +136,13 @@ impl Coverage {
         }
     }
 
+    /// Adds the counts of other trips.
+    pub fn merge(&mut self, other: &Coverage) {
+        for (event, count) in &other.counts {
+            *self.counts.entry(event).or_insert(0) += count;
+        }
+    }
+
     pub fn count(&self, event: &str) -> u64 {
         self.counts.get(event).copied().unwrap_or(0)
     }
@@ -155,8 +174,9 @@ impl TripEvents {
         self.hit("the same cuts with other stretches", !stretches_agree);
     }
 
-    /// The number that reading a file gave, 0 if it was read.
-    pub fn file(&mut self, number: u32) {
+    /// The number that reading a file gave, 0 if it was read. Any other number
+    /// than those of reading is a failure.
+    pub fn file(&mut self, number: u32) -> Result<(), String> {
         let event = match number {
             0 => "file read",
             1 => "file 1",
@@ -166,15 +186,47 @@ impl TripEvents {
             12 => "file 12",
             13 => "file 13",
             14 => "file 14",
-            _ => "file 15",
+            15 => "file 15",
+            _ => return Err(format!("{number} is no number of reading")),
         };
         self.hit(event, true);
+        Ok(())
+    }
+
+    /// The number that finding a section gave, 0 if it was found; likewise.
+    pub fn find(&mut self, number: u32) -> Result<(), String> {
+        let event = match number {
+            0 => "section found",
+            10 => "find 10",
+            11 => "find 11",
+            12 => "find 12",
+            13 => "find 13",
+            _ => return Err(format!("{number} is no number of finding")),
+        };
+        self.hit(event, true);
+        Ok(())
+    }
+
+    /// The number that declined a write, 0 if it was done; likewise.
+    pub fn write(&mut self, number: u32) -> Result<(), String> {
+        let event = match number {
+            0 => "write accepted",
+            1 => "write 1",
+            2 => "write 2",
+            14 => "write 14",
+            15 => "write 15",
+            16 => "write 16",
+            _ => return Err(format!("{number} is no number of writing")),
+        };
+        self.hit(event, true);
+        Ok(())
     }
 
     /// A call with the account before it, which may be an outline, and the
     /// one after it.
     pub fn call(&mut self, before: &Account, call: Call, got: &Result<Answer, u32>, now: &Account) {
         match (got, call) {
+            (Err(number), Call::Afford(_)) => self.hit("afford refused, 3", *number == 3),
             (Err(number), _) => self.hit(REFUSALS[*number as usize], true),
             (Ok(_), Call::Use(kind, n)) => self.used(before, kind, n, got, now),
             (Ok(_), Call::Register(place)) => self.registered(before, place, now),

@@ -1,5 +1,5 @@
-//! The comparison of another meter with this one, on random trips and on
-//! sound and damaged files.
+//! The comparison of another meter with this one, on random trips, on sound
+//! and damaged files and on what there is to write.
 
 use crate::check::{check_pairs, Failure};
 use crate::coverage::{outline, Coverage, TripEvents};
@@ -8,10 +8,12 @@ use crate::generate::{self, Case};
 use crate::meter::{Account, Answer};
 use crate::planted::{planted, Wrong};
 use crate::rng::Rng;
-use crate::sides::{afford_answer, Side, AFFORD_REFUSED, FILE_REFUSED, NO_ROOM, REFERENCE};
+use crate::sides::{afford_answer, Side, REFERENCE};
+use crate::sides::{AFFORD_REFUSED, FILE_REFUSED, NO_ROOM, WRITE_REFUSED};
 use crate::statement::{figures, text, Figures};
 use crate::terms::{Call, Kind};
 use crate::tripfile::{self, Trip, BEFORE_CALLS, CALLS_KIND, PLAN_KIND};
+use crate::writes::WriteCase;
 use std::time::{Duration, Instant};
 
 /// Afford of each kind is compared at the end of every tenth trip or file.
@@ -32,6 +34,18 @@ pub struct Mismatch {
     pub theirs: String,
 }
 
+impl Mismatch {
+    /// One in which no statements differ.
+    fn other(what: String, file: Vec<u8>) -> Box<Mismatch> {
+        Box::new(Mismatch {
+            what,
+            file,
+            ours: String::new(),
+            theirs: String::new(),
+        })
+    }
+}
+
 /// Where the time went.
 #[derive(Clone, Copy, Debug, Default)]
 pub struct Times {
@@ -48,6 +62,8 @@ pub struct Differ {
     pub coverage: Coverage,
     pub trips: u64,
     pub files: u64,
+    /// Writes by both meters: of what was read, and random ones.
+    pub writes: u64,
     /// Calls replayed by the other meter, those before an Afford included.
     pub calls: u64,
     pub longest: usize,
@@ -61,6 +77,7 @@ impl Differ {
             coverage: Coverage::new(),
             trips: 0,
             files: 0,
+            writes: 0,
             calls: 0,
             longest: 0,
             times: Times::default(),
@@ -101,7 +118,22 @@ impl Differ {
         let afford = self.files.is_multiple_of(AFFORD_EVERY);
         self.files += 1;
         let number = self.compare(&sample.bytes, afford, &mut rng, &mut events)?;
-        events.file(number);
+        let told = events.file(number);
+        let told = told.and_then(|()| self.find(&sample.bytes, &mut rng, &mut events));
+        told.map_err(|what| Mismatch::other(what, sample.bytes))?;
+        self.coverage.add(&events);
+        Ok(())
+    }
+
+    /// The random write of a seed.
+    pub fn write(&mut self, seed: u64) -> Result<(), Box<Mismatch>> {
+        let begun = Instant::now();
+        let mut rng = Rng::new(seed ^ 0x3217_E000);
+        let case = WriteCase::random(&mut rng);
+        self.times.generation += begun.elapsed();
+        let mut events = TripEvents::default();
+        let differs = |what| Mismatch::other(format!("{what} ({})", case.outline()), Vec::new());
+        self.both_write(&case, &mut events).map_err(differs)?;
         self.coverage.add(&events);
         Ok(())
     }
@@ -117,7 +149,10 @@ impl Differ {
         let begun = Instant::now();
         let read = tripfile::read(file);
         let calls = read.as_ref().map_or(0, |trip| trip.calls.len());
-        let ran = read.and_then(|trip| observed(&trip, events));
+        let ran = match &read {
+            Ok(trip) => observed(trip, events),
+            Err(number) => Err(*number),
+        };
         let ours = ran
             .as_ref()
             .map(|(account, refused)| figures(account, *refused))
@@ -138,7 +173,9 @@ impl Differ {
         if ours != theirs {
             return Err(differs("the statements differ".to_string()));
         }
-        self.write(file, rng).map_err(differs)?;
+        if let Ok(trip) = &read {
+            self.write_again(file, trip, rng, events).map_err(differs)?;
+        }
         if afford {
             self.calls += 4 * calls as u64;
             self.afford(file, &ran, rng, events).map_err(differs)?;
@@ -190,35 +227,71 @@ impl Differ {
         (self.other.statement)(file, &mut list) == NO_ROOM && list == [7; 9]
     }
 
-    /// Writing again what was read: the same answer and the same buffer, be
-    /// it long enough or not; a file of just plan and calls comes out as it is.
-    fn write(&mut self, file: &[u8], rng: &mut Rng) -> Result<(), Failure> {
-        let (Some(ours_write), Some(theirs_write)) = (REFERENCE.write, self.other.write) else {
-            return Ok(());
-        };
-        let room = match rng.below(8) {
-            0 => rng.below(file.len() as u64 + 1) as usize,
-            _ => file.len() + rng.below(20) as usize,
-        };
-        let mut ours: Vec<u8> = vec![rng.word() as u8; room];
-        let mut theirs = ours.clone();
+    /// Writing again what a file was read as. A file of just plan and calls
+    /// comes out as it is, any other one as a file that reads alike.
+    fn write_again(
+        &mut self,
+        file: &[u8],
+        trip: &Trip,
+        rng: &mut Rng,
+        events: &mut TripEvents,
+    ) -> Result<(), Failure> {
+        let case = WriteCase::again(trip, rng);
+        let (number, buffer) = self.both_write(&case, events)?;
+        let written = &buffer[..(BEFORE_CALLS + 8 * trip.calls.len()).min(buffer.len())];
+        if number != 0 {
+            Ok(())
+        } else if is_plain(file) && written != file {
+            Err("write altered a file of plan and calls".to_string())
+        } else if !is_plain(file) && tripfile::read(written).as_ref() != Ok(trip) {
+            Err("what was written is read otherwise".to_string())
+        } else {
+            Ok(())
+        }
+    }
+
+    /// The sections of the usual kinds and of a random one.
+    fn find(&mut self, file: &[u8], rng: &mut Rng, events: &mut TripEvents) -> Result<(), Failure> {
+        for kind in [0, 1, 2, 3, 4, 7, u32::MAX, rng.word() as u32] {
+            let begun = Instant::now();
+            let ours = (REFERENCE.find)(file, kind);
+            self.times.reference += begun.elapsed();
+            let begun = Instant::now();
+            let theirs = (self.other.find)(file, kind);
+            self.times.other += begun.elapsed();
+            if ours != theirs {
+                return Err(format!("find of kind {kind} gave {theirs:?}, not {ours:?}"));
+            }
+            events.find(ours.number as u32)?;
+        }
+        Ok(())
+    }
+
+    /// Both writers, each on a copy of the buffer: the same answer, and the
+    /// same bytes in all of the buffer. Answers the number that declined the
+    /// write, 0 if it was done, and the buffer.
+    fn both_write(
+        &mut self,
+        case: &WriteCase,
+        events: &mut TripEvents,
+    ) -> Result<(u32, Vec<u8>), Failure> {
+        let (mut ours, mut theirs) = (case.buffer.clone(), case.buffer.clone());
         let begun = Instant::now();
-        let our_answer = ours_write(file, &mut ours);
+        let our_answer = case.run(REFERENCE.write, &mut ours);
         self.times.reference += begun.elapsed();
         let begun = Instant::now();
-        let answer = theirs_write(file, &mut theirs);
+        let answer = case.run(self.other.write, &mut theirs);
         self.times.other += begun.elapsed();
+        self.writes += 1;
         if our_answer != answer {
             return Err(format!("write answered {answer}, not {our_answer}"));
         }
-        if ours != theirs {
-            return Err("write filled the buffer otherwise".to_string());
+        if let Some(at) = (0..ours.len()).find(|at| ours[*at] != theirs[*at]) {
+            return Err(format!("write filled the buffer otherwise, from byte {at}"));
         }
-        let wrote = answer as usize > BEFORE_CALLS;
-        if wrote && is_plain(file) && theirs.get(..file.len()) != Some(file) {
-            return Err("write altered a file of plan and calls".to_string());
-        }
-        Ok(())
+        let number = answer.saturating_sub(WRITE_REFUSED) as u32;
+        events.write(number)?;
+        Ok((number, theirs))
     }
 
     /// Afford of each kind after the file's calls.
@@ -263,14 +336,11 @@ impl Differ {
         let begun = Instant::now();
         let lists = check_pairs(case, rng, events);
         self.times.pairs += begun.elapsed();
-        let lists = lists.map_err(|what| {
-            Box::new(Mismatch {
-                what: format!("demand 3: {what}"),
-                file: case.to_file().unwrap_or_default(),
-                ours: String::new(),
-                theirs: String::new(),
-            })
-        })?;
+        let fails = |what| {
+            let file = case.to_file().unwrap_or_default();
+            Mismatch::other(format!("demand 3: {what}"), file)
+        };
+        let lists = lists.map_err(fails)?;
         for calls in lists {
             let plan = case.plan;
             if let Some(file) = (Case { plan, calls }).to_file() {

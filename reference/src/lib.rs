@@ -1,12 +1,15 @@
 //! A second implementation of the roaming meter of document 01, written from
-//! the paper alone. It serves as the other side of a differential test and as
-//! a baseline for measurements.
+//! the paper and, where it leaves a point open, from the readings of
+//! docs/DECISIONS.md. It serves as the other side of a differential test and
+//! as a baseline for measurements.
 //!
 //! Programs: `refstatement` prints a statement, `selfcheck` holds the meter
 //! against the book, `differ` holds the proved meter against this one, `bench`
-//! measures both. `planted.sh` shows that `differ` finds wrong rules, and
-//! `instructions.sh` counts the proved meter's instructions; the example `timing`
-//! times this meter alone.
+//! measures both, `stored_cases` makes the stored inputs of the programs with
+//! the output that they must give. `planted.sh` shows that `differ` finds wrong
+//! rules, `statement_cases.sh` runs a program on the stored inputs of
+//! `statement`, and `instructions.sh` counts the proved meter's instructions;
+//! the example `timing` times this meter alone.
 
 pub mod book;
 pub mod calendar;
@@ -27,5 +30,7 @@ pub mod rng;
 pub mod services;
 pub mod sides;
 pub mod statement;
+pub mod stored;
 pub mod terms;
 pub mod tripfile;
+pub mod writes;

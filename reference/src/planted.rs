@@ -30,10 +30,18 @@ pub enum Wrong {
     RefusedNotCounted,
     /// Files are read whatever their sum is.
     SumNotChecked,
+    /// The writer clears the bytes after the file.
+    ClearsTheRest,
+    /// The writer looks at the room before it looks at the calls.
+    RoomBeforeCalls,
+    /// The writer looks at the calls before it looks at the plan.
+    CallsBeforePlan,
+    /// A section of another kind than plan and calls may be there twice.
+    OtherKindsTwice,
 }
 
 impl Wrong {
-    pub const ALL: [Wrong; 12] = [
+    pub const ALL: [Wrong; 16] = [
         Wrong::RoundsEachRecord,
         Wrong::LimitFromTopUp,
         Wrong::SurchargesTwice,
@@ -46,6 +54,10 @@ impl Wrong {
         Wrong::OneMoreThanVolume,
         Wrong::RefusedNotCounted,
         Wrong::SumNotChecked,
+        Wrong::ClearsTheRest,
+        Wrong::RoomBeforeCalls,
+        Wrong::CallsBeforePlan,
+        Wrong::OtherKindsTwice,
     ];
 }
 

@@ -39,6 +39,12 @@ impl Rng {
         from[self.below(from.len() as u64) as usize]
     }
 
+    /// So many random bytes.
+    pub fn bytes(&mut self, count: usize) -> Vec<u8> {
+        let words = (0..count.div_ceil(8)).map(|_| self.word().to_le_bytes());
+        words.flatten().take(count).collect()
+    }
+
     /// A number up to `high` whose length in bits is random.
     pub fn scaled(&mut self, high: u64) -> u64 {
         let bits = self.below(65 - u64::from(high.leading_zeros()));

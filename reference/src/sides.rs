@@ -2,17 +2,30 @@
 //! meter exports them.
 
 use crate::meter::{Account, Answer};
+use crate::plan::{Plan, UNLIMITED};
 use crate::statement::{figures_of, run};
 use crate::terms::Kind;
 use crate::tripfile;
+use crate::writes::Writer;
 use std::hint::black_box;
 
 /// Added to Afford's refusal.
 pub const AFFORD_REFUSED: u64 = 2_000_000_000;
 /// Added to the number of a file that is refused on the way to Afford.
 pub const FILE_REFUSED: u64 = 3_000_000_000;
+/// Added to the number that declines a write.
+pub const WRITE_REFUSED: u64 = 1_000_000;
 /// The answer to a statement with room for fewer than ten figures.
 pub const NO_ROOM: u64 = 1000;
+
+/// What finding a section gives: 0, the length of the part and the wrapping
+/// sum of its words; or the number that declines it, and an empty part.
+#[derive(Clone, Copy, PartialEq, Eq, Debug)]
+pub struct Found {
+    pub number: u64,
+    pub length: usize,
+    pub sum: u32,
+}
 
 /// A meter.
 #[derive(Clone, Copy, Debug)]
@@ -20,10 +33,12 @@ pub struct Side {
     /// The ten figures of a file, put into the list, and 0; or the file's
     /// number, the list then unchanged.
     pub statement: fn(&[u8], &mut [u64]) -> u64,
-    /// The file's plan and calls written again: the number of bytes; or the
-    /// number of reading or writing, the buffer then unchanged.
-    /// None where the meter does not export it.
-    pub write: Option<fn(&[u8], &mut [u8]) -> u64>,
+    /// A plan's seven words, codes and numbers of calls, written into the
+    /// buffer: the number of bytes; or 1,000,000 and the number that declines
+    /// it, the buffer then unchanged. A form above 1 is unlimited.
+    pub write: Writer,
+    /// The section of a kind.
+    pub find: fn(&[u8], u32) -> Found,
     /// Afford of a kind after the file's calls, asked that many times.
     pub afford: fn(&[u8], Kind, u64) -> u64,
 }
@@ -31,7 +46,8 @@ pub struct Side {
 /// This crate's meter.
 pub const REFERENCE: Side = Side {
     statement,
-    write: Some(write),
+    write,
+    find,
     afford,
 };
 
@@ -56,12 +72,25 @@ fn statement(file: &[u8], out: &mut [u64]) -> u64 {
     }
 }
 
-fn write(file: &[u8], out: &mut [u8]) -> u64 {
-    let written = tripfile::read(file).and_then(|trip| {
-        let (codes, numbers): (Vec<u32>, Vec<u32>) = trip.calls.iter().copied().unzip();
-        tripfile::write(&trip.plan, &codes, &numbers, out)
-    });
-    written.map_or_else(u64::from, |bytes| bytes as u64)
+fn write(words: &[u64; 7], codes: &[u32], numbers: &[u32], buffer: &mut [u8]) -> u64 {
+    // No range reaches the last 32-bit word: what is wider is outside, too.
+    let narrow = |word: u64| u32::try_from(word).unwrap_or(u32::MAX);
+    let mut plan = Plan::from_words(words.map(narrow));
+    plan.form = plan.form.min(UNLIMITED);
+    match tripfile::write(&plan, codes, numbers, buffer) {
+        Ok(bytes) => bytes as u64,
+        Err(number) => WRITE_REFUSED + u64::from(number),
+    }
+}
+
+fn find(file: &[u8], kind: u32) -> Found {
+    let found = tripfile::find(file, kind);
+    let part = found.unwrap_or(&[]);
+    Found {
+        number: found.err().map_or(0, u64::from),
+        length: part.len(),
+        sum: tripfile::word_sum(part),
+    }
 }
 
 fn afford(file: &[u8], kind: Kind, times: u64) -> u64 {

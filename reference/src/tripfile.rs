@@ -82,8 +82,9 @@ fn entry(bytes: &[u8], at: usize) -> Entry {
 /// 13: the body of the kind, if it is there just once.
 fn only<'a>(bytes: &'a [u8], entries: &[Entry], kind: u32) -> Result<&'a [u8], u32> {
     let mut found = entries.iter().filter(|entry| entry.kind == kind);
+    let lenient = planted(Wrong::OtherKindsTwice) && kind > CALLS_KIND;
     match (found.next(), found.next()) {
-        (Some(entry), None) => {
+        (Some(entry), more) if more.is_none() || lenient => {
             Ok(&bytes[entry.start as usize..(entry.start + entry.length) as usize])
         }
         _ => Err(13),
@@ -166,15 +167,25 @@ impl Iterator for CallReader<'_> {
 /// too short. Answers the file's length; bytes after the file stay, and a
 /// refusal writes nothing.
 pub fn write(plan: &Plan, codes: &[u32], numbers: &[u32], buf: &mut [u8]) -> Result<usize, u32> {
+    let calls = codes.iter().copied().zip(numbers.iter().copied());
+    if planted(Wrong::CallsBeforePlan) {
+        check_calls(calls.clone())?;
+    }
     check_plan(plan)?;
     let count = codes.len();
     if count == 0 || count > MAX_CALLS || numbers.len() != count {
         return Err(14);
     }
-    check_calls(codes.iter().copied().zip(numbers.iter().copied()))?;
     let length = BEFORE_CALLS + 8 * count;
+    if planted(Wrong::RoomBeforeCalls) && buf.len() < length {
+        return Err(16);
+    }
+    check_calls(calls)?;
     let file = buf.get_mut(..length).ok_or(16u32)?;
     fill(file, plan, codes, numbers);
+    if planted(Wrong::ClearsTheRest) {
+        buf[length..].fill(0);
+    }
     Ok(length)
 }
 

@@ -1,9 +1,13 @@
 //! The comparison itself: the meter agrees with itself, and meters that go
 //! wrong in one point are found.
 
+use reference::coverage::TripEvents;
 use reference::differ::{Differ, Mismatch};
-use reference::sides::{Side, REFERENCE};
+use reference::rng::Rng;
+use reference::sides::{Side, REFERENCE, WRITE_REFUSED};
 use reference::terms::Kind;
+use reference::writes::WriteCase;
+use std::collections::BTreeSet;
 
 const TRIPS: u64 = 150;
 
@@ -12,6 +16,7 @@ fn compared(other: Side) -> Result<Differ, Box<Mismatch>> {
     for seed in 1..=TRIPS {
         differ.trip(seed)?;
         differ.file(seed)?;
+        differ.write(seed)?;
     }
     Ok(differ)
 }
@@ -74,18 +79,97 @@ fn a_list_altered_by_a_refusal_is_found() {
 
 #[test]
 fn a_byte_written_after_the_file_is_found() {
-    let write = |file: &[u8], out: &mut [u8]| {
-        let answer = (REFERENCE.write.unwrap())(file, out);
-        if answer >= 72 && out.len() > answer as usize {
-            out[answer as usize] ^= 1;
+    let write = |plan: &[u64; 7], codes: &[u32], numbers: &[u32], out: &mut [u8]| {
+        let answer = (REFERENCE.write)(plan, codes, numbers, out);
+        if let Some(byte) = out.get_mut(answer as usize) {
+            *byte ^= 1;
         }
         answer
     };
-    let other = Side {
-        write: Some(write),
-        ..REFERENCE
+    let other = Side { write, ..REFERENCE };
+    assert!(found(other).starts_with("write filled the buffer otherwise"));
+}
+
+#[test]
+fn a_byte_written_by_a_refusal_is_found() {
+    let write = |plan: &[u64; 7], codes: &[u32], numbers: &[u32], out: &mut [u8]| {
+        let answer = (REFERENCE.write)(plan, codes, numbers, out);
+        if answer > WRITE_REFUSED && !out.is_empty() {
+            out[0] ^= 1;
+        }
+        answer
     };
-    assert_eq!(found(other), "write filled the buffer otherwise");
+    let other = Side { write, ..REFERENCE };
+    assert!(found(other).starts_with("write filled the buffer otherwise, from byte 0"));
+}
+
+#[test]
+fn another_order_of_refusals_is_found() {
+    fn write(plan: &[u64; 7], codes: &[u32], numbers: &[u32], out: &mut [u8]) -> u64 {
+        let short = out.len() < 64 + 8 * codes.len();
+        match (REFERENCE.write)(plan, codes, numbers, out) {
+            1_000_015 if short => 1_000_016,
+            answer => answer,
+        }
+    }
+    let other = Side { write, ..REFERENCE };
+    assert!(found(other).starts_with("write answered 1000016, not 1000015"));
+}
+
+/// A writer that takes no notice of a plan's upper 32 bits.
+#[test]
+fn a_plan_cut_to_words_is_found() {
+    let write = |plan: &[u64; 7], codes: &[u32], numbers: &[u32], out: &mut [u8]| {
+        let cut = plan.map(|word| word & 0xFFFF_FFFF);
+        (REFERENCE.write)(&cut, codes, numbers, out)
+    };
+    let other = Side { write, ..REFERENCE };
+    assert!(found(other).starts_with("write answered "));
+}
+
+/// Random writes get the numbers that they were made for.
+#[test]
+fn writes_are_what_they_are_made_for() {
+    let mut rng = Rng::new(5);
+    let mut seen = BTreeSet::new();
+    for _ in 0..1000 {
+        let case = WriteCase::random(&mut rng);
+        let answer = case.run(REFERENCE.write, &mut case.buffer.clone());
+        let number = answer.saturating_sub(WRITE_REFUSED) as u32;
+        assert_eq!(number, case.expected, "{}", case.outline());
+        seen.insert(number);
+    }
+    assert_eq!(Vec::from_iter(seen), [0, 1, 2, 14, 15, 16]);
+}
+
+/// A number that no operation gives is no event.
+#[test]
+fn unknown_numbers_are_failures() {
+    let mut events = TripEvents::default();
+    for number in [0, 1, 2, 10, 11, 12, 13, 14, 15] {
+        assert_eq!(events.file(number), Ok(()));
+    }
+    for number in [3, 9, 16, 17, u32::MAX] {
+        assert!(events.file(number).is_err());
+    }
+    assert!(events.find(0).is_ok() && events.find(14).is_err());
+    for number in [0, 1, 2, 14, 15, 16] {
+        assert_eq!(events.write(number), Ok(()));
+    }
+    for number in [3, 10, 13, 17] {
+        assert!(events.write(number).is_err());
+    }
+}
+
+/// A finder that takes kind 3 for kind 4.
+#[test]
+fn a_section_of_another_kind_is_found() {
+    let find = |file: &[u8], kind: u32| match kind {
+        4 => (REFERENCE.find)(file, 3),
+        _ => (REFERENCE.find)(file, kind),
+    };
+    let other = Side { find, ..REFERENCE };
+    assert!(found(other).starts_with("find of kind 4 gave "));
 }
 
 #[test]

@@ -7,6 +7,8 @@ use reference::plan::Plan;
 use reference::rng::Rng;
 use reference::services::{Day, State};
 use reference::terms::{Call, Kind, Place};
+use std::hint::black_box;
+use std::panic::catch_unwind;
 
 fn every_call() -> Vec<Call> {
     let mut calls = vec![Call::TopUp(1), Call::TopUp(0), Call::NextDay];
@@ -108,9 +110,16 @@ fn odd_accounts_that_are_sound() {
     assert!(account.sound());
 }
 
-/// Any values at all are refused or sound, and nothing overflows.
+/// Any values at all are refused or sound, and nothing overflows. Where sums
+/// wrap, as in a release build, an overflow would not show.
 #[test]
+#[cfg_attr(
+    not(debug_assertions),
+    ignore = "shows nothing where sums wrap: cargo test --profile checked"
+)]
 fn any_values_never_overflow() {
+    let most = black_box(u64::MAX);
+    assert!(catch_unwind(|| most + black_box(1)).is_err(), "sums wrap");
     let mut rng = Rng::new(7);
     let big = |rng: &mut Rng| match rng.below(4) {
         0 => u64::MAX,

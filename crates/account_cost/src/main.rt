@@ -1,12 +1,61 @@
-// A program to count instructions with: it opens an account, fills its log, and makes the calls that standard input asks for: a letter for the call
-// (u use, r register, t top-up, n next day, a Afford) and how many hundreds of it, as a digit. It prints the credit then left.
+// A program to count instructions with. Standard input asks for calls: a letter for the call (u use of 1 kB, r register in
+// the zone, t top-up of 1,000 points, n next day, a Afford of data) and how many hundreds of it, as a digit; then further
+// pairs. Each pair starts from an account that is opened, topped up and has its log filled anew. It prints a line for each:
+// the letter, how many of the calls were accepted, and the credit then left (for n the day, for a what Afford answers).
+//
+// The stored output comes from the second implementation (reference/src/stored.rs), and its figures were worked out by hand:
+// 100 kB at 1,000,000 points a GB cost 95 of the 100,000 points; 100 top-ups add 100,000; 100 days after day 181 + 130; and
+// 104,858 kB cost 100,000 points, one more 100,001.
 use account::Account;
+use account::AffordAnswer;
 use metering::State;
+use metering::UseAnswer;
 use tariff::Form;
 use tariff::Kind;
 use tariff::Place;
 use tariff::Plan;
-ghost use Prim.Native.Nat.{_<_};
+use tariff::Verdict;
+ghost use Prim.Native.Nat.{_<_, _≤_};
+
+// How many calls were accepted, and a figure that shows what they did.
+struct Tally {
+    accepted: u64,
+    shown: u64,
+}
+
+fn granted(v: Verdict) -> u64
+    ensures { λ r. ⌜ r ≤ 1 ⌝ }
+{
+    match v {
+        Verdict::Accepted => 1,
+        Verdict::Refused(_) => 0,
+    }
+}
+
+fn charged(x: UseAnswer) -> u64
+    ensures { λ r. ⌜ r ≤ 1 ⌝ }
+{
+    match x {
+        UseAnswer::Charged(_) => 1,
+        UseAnswer::Declined(_) => 0,
+    }
+}
+
+fn told(x: AffordAnswer) -> u64
+    ensures { λ r. ⌜ r ≤ 1 ⌝ }
+{
+    match x {
+        AffordAnswer::UpTo(_) => 1,
+        AffordAnswer::Withheld(_) => 0,
+    }
+}
+
+fn most(x: AffordAnswer) -> u64 {
+    match x {
+        AffordAnswer::UpTo(n) => n,
+        AffordAnswer::Withheld(_) => 0,
+    }
+}
 
 fn paid(start: State, log: &[u64; 1599]) -> State {
     let mut state = start;
@@ -36,67 +85,99 @@ fn filled(a: Account) -> Account {
     }
 }
 
-fn days(a: Account, n: u64) -> u64 {
+fn days(a: Account, n: u64) -> Tally {
     let mut held = a;
+    let mut accepted: u64 = 0;
     let mut i: u64 = 0;
     while i < n {
         let r = held.next_day();
         held = r.account;
+        let answer = r.answer;
+        accepted += granted(answer);
         i += 1;
     }
     let state = held.state;
-    state.credit
+    Tally {
+        accepted: accepted,
+        shown: state.day,
+    }
 }
 
-fn uses(a: Account, n: u64) -> u64 {
+fn uses(a: Account, n: u64) -> Tally {
     let mut held = a;
+    let mut accepted: u64 = 0;
     let mut i: u64 = 0;
     while i < n {
         let r = held.use_units(Kind::Data, 1);
         held = r.account;
+        let answer = r.answer;
+        accepted += charged(answer);
         i += 1;
     }
     let state = held.state;
-    state.credit
+    Tally {
+        accepted: accepted,
+        shown: state.credit,
+    }
 }
 
-fn registrations(a: Account, n: u64) -> u64 {
+fn registrations(a: Account, n: u64) -> Tally {
     let mut held = a;
+    let mut accepted: u64 = 0;
     let mut i: u64 = 0;
     while i < n {
         let r = held.register(Place::Zone);
         held = r.account;
+        let answer = r.answer;
+        accepted += granted(answer);
         i += 1;
     }
     let state = held.state;
-    state.credit
+    Tally {
+        accepted: accepted,
+        shown: state.credit,
+    }
 }
 
-fn top_ups(a: Account, n: u64) -> u64 {
+fn top_ups(a: Account, n: u64) -> Tally {
     let mut held = a;
+    let mut accepted: u64 = 0;
     let mut i: u64 = 0;
     while i < n {
         let r = held.top_up(1000);
         held = r.account;
+        let answer = r.answer;
+        accepted += granted(answer);
         i += 1;
     }
     let state = held.state;
-    state.credit
+    Tally {
+        accepted: accepted,
+        shown: state.credit,
+    }
 }
 
-fn affords(a: Account, n: u64) -> u64 {
+fn affords(a: Account, n: u64) -> Tally {
     let mut held = a;
+    let mut accepted: u64 = 0;
     let mut i: u64 = 0;
     while i < n {
         let r = held.afford(Kind::Data);
         held = r.account;
+        let answer = r.answer;
+        accepted += told(answer);
         i += 1;
     }
-    let state = held.state;
-    state.credit
+    let last = held.afford(Kind::Data);
+    let answer = last.answer;
+    let shown = most(answer);
+    Tally {
+        accepted: accepted,
+        shown: shown,
+    }
 }
 
-fn calls(a: Account, letter: u8, n: u64) -> u64 {
+fn calls(a: Account, letter: u8, n: u64) -> Tally {
     if letter == b'u' {
         return uses(a, n);
     }
@@ -124,12 +205,23 @@ fn digit(x: u8) -> u64
     (x - 48) as u64
 }
 
-fn main() {
+fn show(letter: u8, t: Tally) {
+    let name = [letter];
+    io::write_all(1, &name);
+    io::write_all(1, b" ");
+    io::print_decimal(1, t.accepted);
+    io::write_all(1, b" ");
+    io::print_decimal(1, t.shown);
+    io::write_all(1, b"\n");
+}
+
+// The calls of one pair, on an account of their own.
+fn run_pair(letter: u8, hundreds: u8) {
     let form = Form::Prepaid;
     let plan = Plan {
         form: form,
         start: 181,
-        pergb: 10000,
+        pergb: 1000000,
         perminute: 600,
         persms: 500,
         fee: 0,
@@ -137,9 +229,19 @@ fn main() {
     };
     let opened = Account::open(plan);
     let full = filled(opened.account);
-    let mut asked = [0u8; 2];
-    io::read_full(0, &mut asked);
-    let credit = calls(full, asked[0], 100 * digit(asked[1]));
-    io::print_decimal(1, credit);
-    io::write_all(1, b"\n");
+    show(letter, calls(full, letter, 100 * digit(hundreds)));
+}
+
+fn run_pairs(asked: &[u8]) {
+    let mut at: usize = 0;
+    while 2 <= asked.len() - at {
+        run_pair(asked[at], asked[at + 1]);
+        at += 2;
+    }
+}
+
+fn main() {
+    let mut asked = [0u8; 64];
+    let n = io::read_full(0, &mut asked);
+    run_pairs(&asked[..n]);
 }

@@ -11,16 +11,13 @@ use Rattle.account.specs.declared.Account.{Account}
 use Rattle.account.specs.declared.Afforded.{Afforded}
 use Rattle.account.specs.declared.Call.the-variants.{Afford}
 use Rattle.account.specs.Calls.{accepts, after, step}
-use Rattle.account.specs.Answers.{open-answer, afford-result}
-use Rattle.replay.specs.declared.Replayed.{Replayed}
+use Rattle.account.specs.Answers.{afford-result}
 use Rattle.tripfile.specs.declared.Read.the-variants.{Trip, Refused as NotRead}
 use Rattle.tripfile.specs.Reading.{read-of}
-use Rattle.sections.specs.Find.{section-of}
 use Rattle.report.specs.declared.Figures.{Figures}
 use Rattle.report.specs.declared.Report.{Report}
 use Rattle.report.specs.declared.Report.the-variants.{Lines, Refused}
-use Rattle.report.specs.Statement.{run-first}
-use Rattle.report.proofs.Running.{file-replayed}
+use Rattle.report.specs.Statement.{trip-run}
 use Rattle.bridge.specs.Numbers.{with-figures, statement-number, statement-out, kind-number, afford-number, afford-on, afford-after}
 
 pub afford-same : (a : Account) (k : Kind) → afford-result a k .account ≡ a
@@ -49,10 +46,9 @@ pub told-refusal : (r : Report) (n : ℕ) (out : List ℕ) → 10 ≤ length out
 unfolding statement-number statement-out
 told-refusal r n out h e = (rw (le-ltb (length out) 10 h, e) refl, rw (le-ltb (length out) 10 h, e) refl)
 
-pub afforded : (f : List ℕ) (k : ℕ) (p : Plan) (n : ℕ) → read-of f ≡ Trip p n
-    → afford-number (afford-result (run-first (open-answer p .account) (section-of f 2) n .account) (kind-number k) .answer) ≡ afford-after f k
+pub afforded : (f : List ℕ) (k : ℕ) (p : Plan) (n : ℕ) → read-of f ≡ Trip p n → afford-number (afford-result (trip-run f p .account) (kind-number k) .answer) ≡ afford-after f k
 unfolding afford-after afford-on
-afforded f k p n e = rw e (ap (λ (t : Replayed). afford-number (afford-result (t .account) (kind-number k) .answer)) (file-replayed (open-answer p .account) f p n e))
+afforded f k p n e = rw e refl
 
 pub not-afforded : (f : List ℕ) (k n : ℕ) → read-of f ≡ NotRead n → 3000000000 + n % 1000 ≡ afford-after f k
 unfolding afford-after afford-on

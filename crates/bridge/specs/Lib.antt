@@ -1,1 +1,3 @@
+pub mod Finder
 pub mod Numbers
+pub mod Writer

@@ -10,15 +10,14 @@ use Rattle.tariff.specs.declared.Kind.{Kind}
 use Rattle.tariff.specs.declared.Kind.the-variants.{Data, Outgoing, Incoming, Sms}
 use Rattle.account.specs.declared.AffordAnswer.{AffordAnswer}
 use Rattle.account.specs.declared.AffordAnswer.the-variants.{UpTo, Withheld}
-use Rattle.account.specs.Answers.{open-answer, afford-result}
-use Rattle.replay.specs.Replay.{replay-of}
+use Rattle.account.specs.Answers.{afford-result}
 use Rattle.tripfile.specs.declared.Read.{Read}
 use Rattle.tripfile.specs.declared.Read.the-variants as Told
-use Rattle.tripfile.specs.Bodies.{codes-of, numbers-of}
-use Rattle.tripfile.specs.Reading.{read-of, calls-of}
+use Rattle.tripfile.specs.Reading.{read-of}
 use Rattle.report.specs.declared.Figures.{Figures}
 use Rattle.report.specs.declared.Report.{Report}
 use Rattle.report.specs.declared.Report.the-variants.{Lines, Refused}
+use Rattle.report.specs.Statement.{trip-run}
 
 -- L: 1 where it is a number, else 0
 abbrev pub limit-known : Allowance → ℕ
@@ -65,7 +64,7 @@ afford-number (Withheld r) = 2000000000 + r % 1000
 
 -- what Afford answers after the calls of a file that was read, or the number of a bad file
 unfoldable pub afford-on : List ℕ → Kind → Read → ℕ
-afford-on f k (Told.Trip p n) = afford-number (afford-result (replay-of (open-answer p .account) (codes-of (calls-of f)) (numbers-of (calls-of f)) .account) k .answer)
+afford-on f k (Told.Trip p n) = afford-number (afford-result (trip-run f p .account) k .answer)
 afford-on f k (Told.Refused n) = 3000000000 + n % 1000
 
 -- the same of a file's bytes

@@ -1,4 +1,7 @@
 // The proved meter with a C interface, for the comparison with the second implementation.
+pub mod finder;
+pub mod writer;
+
 use account::Account;
 use account::AffordAnswer;
 use report::Figures;
@@ -118,11 +121,9 @@ pub extern "C" fn meter_afford(file: &[u8], kind: u64, times: u64) -> u64
     let read = tripfile::reading::read(file);
     match read {
         Read::Trip { plan, calls } => {
-            let opened = Account::open(plan);
-            let a = opened.account;
-            let t = report::run_section(sections::find(file, 2), calls, a);
-            let b = t.account;
-            ask(b, kind_of(kind), times)
+            let t = report::run_trip(file, plan, calls);
+            let a = t.account;
+            ask(a, kind_of(kind), times)
         }
         Read::Refused(n) => 3000000000 + n % 1000,
     }

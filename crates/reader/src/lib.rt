@@ -1,6 +1,7 @@
 // Document 01, "Trip file": a reader that refers to the calls section, thin over `decode`.
 ghost use mathlib.Core.Path.{_≡_};
 ghost use Rattle.reader.specs.Calls.{decoded, position-after};
+ghost use Rattle.reader.specs.Handed.{HandsOutCalls};
 
 // The calls section, and the position in bytes of the next call.
 pub struct Reader<'a> {
@@ -68,19 +69,7 @@ pub fn next<'s, 'a>(r: &'s mut Reader<'a>) -> Step
     step
 }
 
-// The reader at another position.
-pub fn moved<'a>(r: Reader<'a>, at: usize) -> Reader<'a>
-    ensures { λ q. ⌜ (q .section ≡ r .entry .section) × (q .at ≡ at) ⌝ }
-{
-    Reader {
-        section: r.section,
-        at,
-    }
-}
-
-// The call at a position of a section, through a reader: for callers that hold no reader.
-pub fn call_at(section: &[u8], at: usize) -> Step
-    ensures { λ r. ⌜ r ≡ decoded (now (section .entry)) at ⌝ }
-{
-    peek(moved(new(section), at))
-}
+// Asked again and again from the section's start, a reader hands out the section's calls in order, and then none.
+pub fn hands_out_calls()
+    ensures { λ _. ⌜ HandsOutCalls ⌝ }
+{}

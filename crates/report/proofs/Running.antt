@@ -1,6 +1,7 @@
 -- The calls of a section, one after the other, are the file's calls replayed. Assumes nothing.
-use Prim.Native.Nat.{ℕ, zero, suc, _+_, _*_, _/_, _≤_}
+use Prim.Native.Nat.{ℕ, zero, suc, _+_, _*_, _/_, _≤_, _<_}
 use mathlib.Core.Path.{_≡_, refl, sym, _∙_, ap}
+use mathlib.Core.Bool.{true}
 use mathlib.Core.List.{List, [], _∷_, _++_}
 use native.Mathlib.Numerals.{add-one}
 use native.Mathlib.Omega.{arith}
@@ -8,16 +9,20 @@ use lib.ListN.{length}
 use Rattle.tariff.specs.declared.Plan.{Plan}
 use Rattle.words.specs.Words.{word}
 use Rattle.account.specs.declared.Account.{Account}
+use Rattle.replay.specs.declared.Progress.{Progress}
 use Rattle.replay.specs.declared.Replayed.{Replayed}
 use Rattle.replay.specs.declared.Coded.{Coded}
 use Rattle.replay.specs.Replay as R
-use Rattle.replay.specs.Replay.{coded, replay-of, replay-step}
-use Rattle.replay.proofs.Steps.{replay-list, replay-is, step-bounded, list-step, list-end, replay-size}
+use Rattle.replay.specs.Replay.{coded, replay-of, replay-step, replayed-of, progress-of}
+use Rattle.replay.proofs.Steps.{replay-list, replay-is, step-bounded, list-step, list-end, replay-size, replayed-is}
 use Rattle.reader.specs.declared.Step.{Step}
 use Rattle.reader.specs.declared.Step.the-variants.{Call, End}
-use Rattle.reader.specs.Calls.{decoded}
-use Rattle.reader.proofs.Decoded.{decoded-call}
-use Rattle.sections.specs.Find.{section-of}
+use Rattle.reader.specs.Calls.{decoded, position-after}
+use Rattle.reader.proofs.Decoded.{decoded-call, after-call}
+use Rattle.tariff.specs.Tests.{is-accepted}
+use Rattle.sections.specs.Table.{file-verdict}
+use Rattle.sections.specs.Find.{just-once, part-of, section-of}
+use Rattle.sections.proofs.Finding.{found-both, section-is}
 use Rattle.tripfile.specs.declared.Read.the-variants.{Trip, Refused as NotRead}
 use Rattle.account.specs.Answers.{open-answer}
 use Rattle.report.specs.declared.Report.the-variants.{Lines, Refused}
@@ -25,7 +30,7 @@ use Rattle.tripfile.specs.Bodies as B
 use Rattle.tripfile.specs.Bodies.{codes-of, numbers-of, first-calls, calls-in}
 use Rattle.tripfile.specs.Reading.{read-of, calls-of}
 use Rattle.tripfile.proofs.Held.{holds}
-use Rattle.report.specs.Statement.{figures-of, report-on, report-of, run-first, taken}
+use Rattle.report.specs.Statement.{figures-of, report-on, report-of, run-first, taken, trip-run}
 
 -- the calls of a file, coded
 coded-list : List B.Call → List Coded
@@ -56,42 +61,66 @@ first-is a s (suc n) =
 pub first-replayed : (a : Account) (s : List ℕ) (n : ℕ) → run-first a s n ≡ replay-of a (codes-of (first-calls s n)) (numbers-of (first-calls s n))
 first-replayed a s n = first-is a s n ∙ ap (replay-list _) (sym (coded-is (first-calls s n))) ∙ replay-is a (codes-of (first-calls s n)) (numbers-of (first-calls s n))
 
--- all calls of a file that was read
-pub file-replayed : (a : Account) (f : List ℕ) (p : Plan) (n : ℕ) → read-of f ≡ Trip p n → run-first a (section-of f 2) n ≡ replay-of a (codes-of (calls-of f)) (numbers-of (calls-of f))
+-- a file that was read has its calls section, and what stands there are all its calls
+pub section-once : (f : List ℕ) (p : Plan) (n : ℕ) → read-of f ≡ Trip p n → (is-accepted (file-verdict f) ≡ true) × (just-once f 2 ≡ true)
+section-once f p n e = found-both f 2 (holds f p n e .found)
+
+section-part : (f : List ℕ) (p : Plan) (n : ℕ) → read-of f ≡ Trip p n → part-of f 2 ≡ section-of f 2
+section-part f p n e = sym (section-is f 2 (holds f p n e .found))
+
+pub part-long : (f : List ℕ) (p : Plan) (n : ℕ) → read-of f ≡ Trip p n → 8 * n ≤ length (part-of f 2)
+part-long f p n e = let h = holds f p n e in omega (arith, h .long, ap length (section-part f p n e))
+
+pub file-replayed : (f : List ℕ) (p : Plan) (n : ℕ) → read-of f ≡ Trip p n → run-first (open-answer p .account) (part-of f 2) n ≡ trip-run f p
 unfolding calls-in
-file-replayed a f p n e =
+file-replayed f p n e =
     let h = holds f p n e in
     let k : length (section-of f 2) / 8 ≡ n = omega (arith, h .long) in
-    rw k (first-replayed a (section-of f 2) n)
+    ap (λ (s : List ℕ). run-first (open-answer p .account) s n) (section-part f p n e) ∙ rw k (first-replayed (open-answer p .account) (section-of f 2) n)
 
 pub run-none : (a : Account) (s : List ℕ) → run-first a s 0 ≡ record { account = a; refused = 0 }
 unfolding run-first
 run-none a s = refl
 
-pub run-more : (a : Account) (s : List ℕ) (i : ℕ) → 8 * i + 8 ≤ length s → taken (run-first a s i) (decoded s (8 * i)) ≡ run-first a s (i + 1)
+run-more : (a : Account) (s : List ℕ) (i : ℕ) → 8 * i + 8 ≤ length s → taken (run-first a s i) (decoded s (8 * i)) ≡ run-first a s (i + 1)
 unfolding run-first
 run-more a s i h = rw (decoded-call s i h, add-one i) refl
 
-pub run-bounded : (a : Account) (s : List ℕ) (n : ℕ) → run-first a s n .refused ≤ n
+run-bounded : (a : Account) (s : List ℕ) (n : ℕ) → run-first a s n .refused ≤ n
 unfolding run-first
 run-bounded a s zero = omega arith
 run-bounded a s (suc n) = omega (arith, run-bounded a s n, step-bounded (run-first a s n) (coded (word s (2 * n)) (word s (2 * n + 1))))
+
+-- the reader's position after call i
+pub passed-call : (s : List ℕ) (i n : ℕ) → i < n → 8 * n ≤ length s → position-after s (8 * i) ≡ 8 * (i + 1)
+passed-call s i n l h =
+    let fits : 8 * i + 8 ≤ length s = omega arith in
+    let e : 8 * i + 8 ≡ 8 * (i + 1) = omega arith in
+    after-call s (8 * i) fits ∙ e
 
 -- the log keeps its size
 pub taken-size : (t : Replayed) (s : Step) → length (t .account .log) ≡ 1599 → length (taken t s .account .log) ≡ 1599
 taken-size t (Call c n) h = replay-size t (coded c n) h
 taken-size t End h = h
 
-pub section-long : (f : List ℕ) (p : Plan) (n : ℕ) → read-of f ≡ Trip p n → 8 * n ≤ length (section-of f 2)
-section-long f p n e = let h = holds f p n e in omega (arith, h .long)
+-- one call of the code's loop: the call that the reader hands out at call i's place, run with the log lent
+pub turned : (a : Account) (s : List ℕ) (i n : ℕ) (t : Progress) (log : List ℕ) (x : Step) (p : Progress) (zs : List ℕ)
+    → i < n → 8 * n ≤ length s → replayed-of t log ≡ run-first a s i → x ≡ decoded s (8 * i)
+    → p ≡ progress-of (taken (replayed-of t log) x) → zs ≡ taken (replayed-of t log) x .account .log → replayed-of p zs ≡ run-first a s (i + 1)
+turned a s i n t log x p zs l h same d e f =
+    let fits : 8 * i + 8 ≤ length s = omega arith in
+    replayed-is (taken (replayed-of t log) x) p zs e f ∙ rw (d, same) (run-more a s i fits)
 
-pub section-few : (f : List ℕ) (p : Plan) (n : ℕ) → read-of f ≡ Trip p n → n ≤ 8184
-section-few f p n e = holds f p n e .few
+-- fewer calls are refused than are run
+pub few-refused : (a : Account) (s : List ℕ) (i n : ℕ) (t : Progress) (log : List ℕ) → i < n → n < 18446744073709551616 → replayed-of t log ≡ run-first a s i → t .refused < 18446744073709551615
+few-refused a s i n t log l h e =
+    let k : t .refused ≡ run-first a s i .refused = ap (λ (x : Replayed). x .refused) e in
+    omega (arith, k, run-bounded a s i)
 
 -- the report of a file that is read, and of one that is not
-pub reported : (f : List ℕ) (p : Plan) (n : ℕ) → read-of f ≡ Trip p n → Lines (figures-of (run-first (open-answer p .account) (section-of f 2) n)) ≡ report-of f
+pub reported : (f : List ℕ) (p : Plan) (n : ℕ) → read-of f ≡ Trip p n → Lines (figures-of (trip-run f p)) ≡ report-of f
 unfolding report-of report-on
-reported f p n e = rw e (ap (λ (t : Replayed). Lines (figures-of t)) (file-replayed (open-answer p .account) f p n e))
+reported f p n e = rw e refl
 
 pub declined : (f : List ℕ) (n : ℕ) → read-of f ≡ NotRead n → Refused n ≡ report-of f
 unfolding report-of report-on

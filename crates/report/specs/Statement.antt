@@ -2,6 +2,7 @@
 use Prim.Native.Nat.{ℕ, zero, suc, _+_, _*_}
 use mathlib.Core.List.{List}
 use Rattle.words.specs.Words.{word}
+use Rattle.tariff.specs.declared.Plan.{Plan}
 use Rattle.account.specs.declared.Account.{Account}
 use Rattle.account.specs.Answers.{open-answer}
 use Rattle.replay.specs.declared.Replayed.{Replayed}
@@ -30,9 +31,13 @@ figures-of t = record {
   refused = t .refused;
 }
 
--- a file that is read: an account opened under its plan, and its calls one after the other; "A bad file prints one line, `file` and its number"
+-- the calls of a file, one after the other, on an account opened under a plan
+abbrev pub trip-run : List ℕ → Plan → Replayed
+trip-run f p = replay-of (open-answer p .account) (codes-of (calls-of f)) (numbers-of (calls-of f))
+
+-- a file that is read: its calls under its plan; "A bad file prints one line, `file` and its number"
 unfoldable pub report-on : List ℕ → Read → Report
-report-on f (Told.Trip p n) = Lines (figures-of (replay-of (open-answer p .account) (codes-of (calls-of f)) (numbers-of (calls-of f))))
+report-on f (Told.Trip p n) = Lines (figures-of (trip-run f p))
 report-on f (Told.Refused n) = Refused n
 
 -- what is printed of a file's bytes

@@ -4,12 +4,16 @@ use reader::Step;
 use replay::Progress;
 use replay::Replayed;
 use tariff::Allowance;
+use tariff::Plan;
 use tripfile::Read;
 ghost use mathlib.Core.Path.{_≡_};
 ghost use Prim.Native.Nat.{ℕ, _+_, _*_, _≤_, _<_};
 ghost use lib.ListN.{length};
+ghost use Rattle.account.specs.Answers.{account-of};
 ghost use Rattle.replay.specs.Replay.{replayed-of, progress-of};
-ghost use Rattle.report.specs.Statement.{figures-of, report-of, run-first, taken};
+ghost use Rattle.tripfile.specs.Reading.{read-of};
+ghost use Rattle.report.specs.Handed.{ReaderHandsOutCalls};
+ghost use Rattle.report.specs.Statement.{figures-of, report-of, run-first, taken, trip-run};
 
 // The nine figures.
 pub struct Figures {
@@ -45,23 +49,40 @@ fn take_call(t: Progress, log: &mut [u64; 1599], s: Step) -> Progress
     }
 }
 
+// The first n calls of a calls section, with the log lent: one reader over the section, moved on at each call.
+fn run_calls<'a, 'l>(
+    section: &'a [u8],
+    n: usize,
+    from: Progress,
+    log: &'l mut [u64; 1599],
+) -> Progress
+    requires { ⌜ (8 * n ≤ length (now section)) × (length (now log) ≡ 1599) × (from .refused ≡ 0) ⌝ }
+    ensures { λ r. ⌜ replayed-of r (now (log .exit))
+        ≡ run-first (account-of (from .state) (now (log .entry))) (now (section .entry)) n ⌝ }
+{
+    let mut r = reader::new(section);
+    let mut t = from;
+    let mut i: usize = 0;
+    while i < n {
+        let s = reader::next(&mut r);
+        t = take_call(t, log, s);
+        i += 1;
+    }
+    t
+}
+
 // The first n calls of a calls section, on an account.
 pub fn run_section(section: &[u8], n: usize, a: Account) -> Replayed
-    requires { ⌜ (8 * n ≤ length (now section)) × (n ≤ 8184) ⌝ }
+    requires { ⌜ 8 * n ≤ length (now section) ⌝ }
     ensures { λ r. ⌜ r ≡ run-first a (now (section .entry)) n ⌝ }
 {
     let state = a.state;
     let mut log = a.log;
-    let mut t = Progress {
+    let from = Progress {
         state: state,
         refused: 0,
     };
-    let mut i: usize = 0;
-    while i < n {
-        let s = reader::call_at(section, 8 * i);
-        t = take_call(t, &mut log, s);
-        i += 1;
-    }
+    let t = run_calls(section, n, from, &mut log);
     let last = t.state;
     let account = Account {
         state: last,
@@ -93,6 +114,21 @@ fn show_figures(t: Replayed) -> Figures
     }
 }
 
+// A reader over the calls section of a trip file that was read hands out the file's calls in order, and then none.
+pub fn reader_hands_out_calls()
+    ensures { λ _. ⌜ ReaderHandsOutCalls ⌝ }
+{}
+
+// All calls of a trip file that was read, on an account that is opened under its plan.
+pub fn run_trip(file: &[u8], plan: Plan, calls: usize) -> Replayed
+    requires { ⌜ read-of (now file) ≡ Read.Trip plan calls ⌝ }
+    ensures { λ r. ⌜ r ≡ trip-run (now (file .entry)) plan ⌝ }
+{
+    let opened = Account::open(plan);
+    let a = opened.account;
+    run_section(sections::part(file, 2), calls, a)
+}
+
 // The figures of a trip file's bytes.
 pub fn statement_of(file: &[u8]) -> Report
     ensures { λ r. ⌜ r ≡ report-of (now (file .entry)) ⌝ }
@@ -100,9 +136,7 @@ pub fn statement_of(file: &[u8]) -> Report
     let read = tripfile::reading::read(file);
     match read {
         Read::Trip { plan, calls } => {
-            let opened = Account::open(plan);
-            let a = opened.account;
-            let t = run_section(sections::find(file, 2), calls, a);
+            let t = run_trip(file, plan, calls);
             let f = show_figures(t);
             Report::Lines(f)
         }

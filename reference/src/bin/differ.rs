@@ -1,11 +1,12 @@
 //! differ [--seed S] [--trips N] [--damaged N] [--seconds T]: random trips,
-//! and files sound and damaged, through the proved meter and this crate's.
-//! Ends with 1 if they disagree, if demand 3 fails or if a run of full size
-//! misses an event, and with 2 if the proved library is missing.
+//! files sound and damaged, and as many random writes as files, through the
+//! proved meter and this crate's. Ends with 1 if they disagree, if demand 3
+//! fails or if a run of full size or of some seconds misses an event, and with
+//! 2 if the proved library is missing.
 
 use reference::coverage::EVENTS;
 use reference::differ::{Differ, Mismatch};
-use reference::planted::chosen;
+use reference::planted::{chosen, Wrong};
 use reference::sides::proved;
 use std::process::ExitCode;
 use std::time::{Duration, Instant};
@@ -49,7 +50,8 @@ fn main() -> ExitCode {
         return ExitCode::from(2);
     };
     if let Some(rule) = chosen() {
-        eprintln!("differ: wrong rule {}, {rule:?}", rule as u32);
+        let all = Wrong::ALL.len();
+        eprintln!("differ: wrong rule {} of {all}, {rule:?}", rule as u32);
     }
     let seed = options.seed.unwrap_or(1);
     let endless = options.seconds.is_some();
@@ -62,10 +64,7 @@ fn main() -> ExitCode {
     if let Err((place, at, mismatch)) = outcome {
         report(&place, at, &mismatch);
         print_times(&differ, took);
-        println!(
-            "differ: {} trips, {} files, 1 mismatch",
-            differ.trips, differ.files
-        );
+        println!("differ: {}, 1 mismatch", counts(&differ));
         return ExitCode::FAILURE;
     }
     for event in EVENTS {
@@ -76,16 +75,24 @@ fn main() -> ExitCode {
         println!("missed from seed {seed}: {event}");
     }
     print_times(&differ, took);
-    println!(
-        "differ: {} trips, {} files, 0 mismatches",
-        differ.trips, differ.files
-    );
-    let full = !endless && trips >= TRIPS && files >= FILES;
+    println!("differ: {}, 0 mismatches", counts(&differ));
+    let full = endless || (differ.trips >= TRIPS && differ.files >= FILES);
     if full && !missing.is_empty() {
+        println!("differ: {} events missed", missing.len());
         ExitCode::FAILURE
     } else {
         ExitCode::SUCCESS
     }
+}
+
+fn counts(differ: &Differ) -> String {
+    let Differ {
+        trips,
+        files,
+        writes,
+        ..
+    } = differ;
+    format!("{trips} trips, {files} files, {writes} writes")
 }
 
 /// Where a mismatch was found, its seed, and the mismatch.
@@ -113,23 +120,24 @@ fn run(
         if differ.files < files {
             let found = |mismatch| (format!("seed {at}, file"), at, mismatch);
             differ.file(at).map_err(found)?;
+            let found = |mismatch| (format!("seed {at}, write"), at, mismatch);
+            differ.write(at).map_err(found)?;
         }
         if shown.elapsed() >= PROGRESS {
             shown = Instant::now();
-            eprintln!(
-                "differ: {} trips, {} files, {} s",
-                differ.trips,
-                differ.files,
-                begun.elapsed().as_secs()
-            );
+            let past = begun.elapsed().as_secs();
+            eprintln!("differ: {}, {past} s", counts(differ));
         }
     }
     Ok(())
 }
 
-/// Shows a mismatch and saves its file.
+/// Shows a mismatch and saves its file, if it has one.
 fn report(place: &str, seed: u64, mismatch: &Mismatch) {
     println!("{place}: {}", mismatch.what);
+    if mismatch.file.is_empty() {
+        return;
+    }
     let hex: Vec<String> = mismatch.file.iter().map(|b| format!("{b:02x}")).collect();
     println!("file {}", hex.concat());
     println!("reference:\n{}", mismatch.ours);

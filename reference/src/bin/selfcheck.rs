@@ -1,12 +1,14 @@
-//! selfcheck SEED COUNT: random trips through all checks, with the events
-//! that they reached. Ends with 1 if a check fails or an event is missed.
+//! selfcheck SEED COUNT: random trips through all checks. Ends with 1 if a
+//! check fails or an event is missed.
 
-use reference::check::check_seed;
+use reference::check::{check_seed, Failure};
 use reference::coverage::{Coverage, EVENTS};
-use reference::generate::{case, Case};
-use reference::meter::Account;
 use std::process::ExitCode;
-use std::time::Instant;
+use std::sync::atomic::{AtomicU64, Ordering};
+use std::thread;
+use std::time::{Duration, Instant};
+
+const PROGRESS: Duration = Duration::from_secs(4);
 
 fn main() -> ExitCode {
     let args: Vec<Option<u64>> = std::env::args().skip(1).map(|a| a.parse().ok()).collect();
@@ -14,47 +16,74 @@ fn main() -> ExitCode {
         eprintln!("usage: selfcheck SEED COUNT");
         return ExitCode::from(2);
     };
-    let mut coverage = Coverage::new();
-    let mut calls = 0;
     let begun = Instant::now();
-    for each in seed..seed + count {
-        match check_seed(each, &mut coverage) {
-            Ok(made) => calls += made,
-            Err(what) => {
-                println!("seed {each}: {what}");
-                return ExitCode::FAILURE;
-            }
+    let (coverage, calls) = match all_seeds(seed, count) {
+        Ok(reached) => reached,
+        Err((at, what)) => {
+            println!("seed {at}: {what}");
+            println!("selfcheck: a check fails");
+            return ExitCode::FAILURE;
         }
-    }
-    println!("{count} trips, {calls} calls, {:.1?}", begun.elapsed());
-    for event in EVENTS {
-        println!("{:6} {event}", coverage.count(event));
-    }
-    measure(seed, count.min(300));
+    };
     let missing = coverage.missing();
     for event in &missing {
         println!("missed from seed {seed}: {event}");
     }
+    println!(
+        "selfcheck: {count} trips, {calls} calls, all checks hold, {} of {} events reached, {:.1?}",
+        EVENTS.len() - missing.len(),
+        EVENTS.len(),
+        begun.elapsed()
+    );
     if missing.is_empty() {
-        println!("all checks hold, all {} events reached", EVENTS.len());
         ExitCode::SUCCESS
     } else {
         ExitCode::FAILURE
     }
 }
 
-/// Time of a call of the account alone.
-fn measure(seed: u64, count: u64) {
-    let cases: Vec<Case> = (seed..seed + count).map(case).collect();
-    let calls: usize = cases.iter().map(|case| case.calls.len()).sum();
-    let begun = Instant::now();
-    let mut accepted = 0;
-    for case in &cases {
-        let mut account = Account::open(case.plan).expect("the plan keeps its ranges");
-        for call in &case.calls {
-            accepted += usize::from(account.apply(*call).is_ok());
+/// A seed whose check fails, and how.
+type Failed = (u64, Failure);
+
+/// The events and the number of calls of so many seeds, shared out among the
+/// processors.
+fn all_seeds(seed: u64, count: u64) -> Result<(Coverage, usize), Failed> {
+    let next = AtomicU64::new(0);
+    let workers = thread::available_parallelism().map_or(1, usize::from);
+    let mut all = (Coverage::new(), 0);
+    thread::scope(|scope| {
+        let next = &next;
+        let start = |worker| scope.spawn(move || some_seeds(seed, count, next, worker == 0));
+        let started: Vec<_> = (0..workers).map(start).collect();
+        for worker in started {
+            let (coverage, calls) = worker.join().expect("a check does not panic")?;
+            all.0.merge(&coverage);
+            all.1 += calls;
+        }
+        Ok(all)
+    })
+}
+
+/// One worker: takes the next seed while there is one. The first also tells
+/// how far all have come.
+fn some_seeds(
+    seed: u64,
+    count: u64,
+    next: &AtomicU64,
+    tells: bool,
+) -> Result<(Coverage, usize), Failed> {
+    let (mut coverage, mut calls) = (Coverage::new(), 0);
+    let (begun, mut shown) = (Instant::now(), Instant::now());
+    loop {
+        let done = next.fetch_add(1, Ordering::Relaxed);
+        if done >= count {
+            return Ok((coverage, calls));
+        }
+        let at = seed + done;
+        calls += check_seed(at, &mut coverage).map_err(|what| (at, what))?;
+        if tells && shown.elapsed() >= PROGRESS {
+            shown = Instant::now();
+            eprintln!("selfcheck: {done} trips, {} s", begun.elapsed().as_secs());
         }
     }
-    let each = begun.elapsed().as_nanos() / calls.max(1) as u128;
-    println!("{calls} calls of the account alone, {accepted} accepted: {each} ns each");
 }

@@ -1,6 +1,5 @@
 -- `bridge::meter_afford` meets its contract. Assumes nothing.
 use mathlib.Core.Path.{sym, _∙_}
-use Rattle.report.proofs.Running.{section-long, section-few}
 use Rattle.bridge.proofs.Same.{afforded, not-afforded}
 use borrow.Author.Needs.{needs}
 use Rattle.bridge.proofs.meter_afford.Statement.{statement}
@@ -12,15 +11,8 @@ read-requires c κs = search needs
 enum-known-read : tie.Need-enum-known-read
 enum-known-read c = search needs
 
-open-requires : tie.Need-open-requires
-open-requires c κs = search needs
-
-find-requires : tie.Need-find-requires
-find-requires c κs = search needs
-
-run-section-requires : tie.Need-run-section-requires
-run-section-requires c κs = let e = sym (c .before .before .before .before .before .before .read .ensures) ∙ c .before .before .before .before .read2 .given .1 in
-    (rw (c .find .ensures .0) (section-long _ _ _ e), section-few _ _ _ e)
+run-trip-requires : tie.Need-run-trip-requires
+run-trip-requires c κs = sym (c .before .before .before .read .ensures) ∙ c .before .read2 .given .1
 
 kind-of-requires : tie.Need-kind-of-requires
 kind-of-requires c κs = search needs
@@ -35,8 +27,8 @@ add-result : tie.Need-add-result
 add-result c = search needs
 
 returns : tie.Need-returns
-returns c = let e = sym (c .before .before .before .before .before .before .before .before .before .before .read .ensures) ∙ c .before .before .before .before .before .before .before .before .read2 .given .1 in
-    simp (c .ask .ensures, c .before .kind-of .ensures, c .before .before .before .run-section .ensures, c .before .before .before .before .find .ensures .0, c .before .before .before .before .before .before .«open» .ensures) (afforded _ _ _ _ e)
+returns c = let e = sym (c .before .before .before .before .before .before .before .read .ensures) ∙ c .before .before .before .before .before .read2 .given .1 in
+    simp (c .ask .ensures, c .before .kind-of .ensures, c .before .before .before .run-trip .ensures) (afforded _ _ _ _ e)
 
 returns-2 : tie.Need-returns-2
 returns-2 c = not-afforded _ _ _ (sym (c .before .before .before .read .ensures) ∙ c .before .read3 .given .1)
@@ -47,9 +39,7 @@ meter-afford-spec =
     (tie.spec
     read-requires
     enum-known-read
-    open-requires
-    find-requires
-    run-section-requires
+    run-trip-requires
     kind-of-requires
     ask-requires
     enum-known-read-2

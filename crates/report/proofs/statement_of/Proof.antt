@@ -1,6 +1,6 @@
 -- `report::statement_of` meets its contract. Assumes nothing.
 use mathlib.Core.Path.{sym, _∙_}
-use Rattle.report.proofs.Running.{section-long, section-few, reported, declined}
+use Rattle.report.proofs.Running.{reported, declined}
 use borrow.Author.Needs.{needs}
 use Rattle.report.proofs.statement_of.Statement.{statement}
 use Rattle.report.proofs.statement_of.Tie as tie
@@ -11,15 +11,8 @@ read-requires c κs = search needs
 enum-known-read : tie.Need-enum-known-read
 enum-known-read c = search needs
 
-open-requires : tie.Need-open-requires
-open-requires c κs = search needs
-
-find-requires : tie.Need-find-requires
-find-requires c κs = search needs
-
-run-section-requires : tie.Need-run-section-requires
-run-section-requires c κs = let e = sym (c .before .before .before .before .before .before .read .ensures) ∙ c .before .before .before .before .read2 .given .1 in
-    (rw (c .find .ensures .0) (section-long _ _ _ e), section-few _ _ _ e)
+run-trip-requires : tie.Need-run-trip-requires
+run-trip-requires c κs = sym (c .before .before .before .read .ensures) ∙ c .before .read2 .given .1
 
 show-figures-requires : tie.Need-show-figures-requires
 show-figures-requires c κs = search needs
@@ -28,8 +21,8 @@ enum-known-read-2 : tie.Need-enum-known-read-2
 enum-known-read-2 c = search needs
 
 returns : tie.Need-returns
-returns c = let e = sym (c .before .before .before .before .before .before .before .before .read .ensures) ∙ c .before .before .before .before .before .before .read2 .given .1 in
-    simp (c .show-figures .ensures, c .before .run-section .ensures, c .before .before .find .ensures .0, c .before .before .before .before .«open» .ensures) (reported _ _ _ e)
+returns c = let e = sym (c .before .before .before .before .before .read .ensures) ∙ c .before .before .before .read2 .given .1 in
+    simp (c .show-figures .ensures, c .before .run-trip .ensures) (reported _ _ _ e)
 
 returns-2 : tie.Need-returns-2
 returns-2 c = declined _ _ (sym (c .before .before .before .read .ensures) ∙ c .before .read3 .given .1)
@@ -40,9 +33,7 @@ statement-of-spec =
     (tie.spec
     read-requires
     enum-known-read
-    open-requires
-    find-requires
-    run-section-requires
+    run-trip-requires
     show-figures-requires
     enum-known-read-2
     returns

@@ -1,0 +1,14 @@
+-- `bridge::finder::meter_find_length` meets its contract. Assumes nothing.
+use Rattle.bridge.proofs.Found.{same-length}
+use borrow.Author.Needs.{needs}
+use Rattle.bridge.proofs.finder.meter_find_length.Statement.{statement}
+use Rattle.bridge.proofs.finder.meter_find_length.Tie as tie
+
+find-requires : tie.Need-find-requires
+find-requires c κs = search needs
+
+returns : tie.Need-returns
+returns c = search (needs, same-length)
+
+pub meter-find-length-spec : {M : Type 1} → statement M
+meter-find-length-spec = tie.close (tie.spec find-requires returns)

@@ -1,0 +1,54 @@
+-- 01, "Figures": the text that the program `statement` prints. Assumes nothing.
+use Prim.Native.Nat.{ℕ}
+use Prim.Native.String.{String}
+use mathlib.Core.List.{List, _++_}
+use Rattle.text.specs.Text.{ascii, decimal}
+use Rattle.tariff.specs.declared.Allowance.{Allowance}
+use Rattle.tariff.specs.declared.Allowance.the-variants.{NoLimit, Kilobytes}
+use Rattle.report.specs.declared.Figures.{Figures}
+use Rattle.report.specs.declared.Report.{Report}
+use Rattle.report.specs.declared.Report.the-variants.{Lines, Refused}
+use Rattle.report.specs.Statement.{report-of}
+
+-- an aid to the next: what stands before a figure, the figure, and a line feed
+abbrev pub ended : List ℕ → List ℕ → List ℕ
+ended before figure = before ++ figure ++ ascii "\n"
+
+-- a line: the name, a space, the figure, and a line feed
+abbrev pub line : String → List ℕ → List ℕ
+line name figure = ended (ascii name ++ ascii " ") figure
+
+-- L, "or `none`"
+abbrev pub limit-text : Allowance → List ℕ
+limit-text NoLimit = ascii "none"
+limit-text (Kilobytes n) = decimal n
+
+-- its line
+unfoldable pub limit-line : Allowance → List ℕ
+limit-line l = line "limit" (limit-text l)
+
+-- the first five figures: day; paid in; credit; home charges; surcharges
+unfoldable pub money-lines : Figures → List ℕ
+money-lines f =
+    line "day" (decimal (f .day))
+    ++ line "paid" (decimal (f .paid))
+    ++ line "credit" (decimal (f .credit))
+    ++ line "home" (decimal (f .home))
+    ++ line "extra" (decimal (f .extra))
+
+-- the other four: L; R; lifetime surcharged kB; refused calls
+unfoldable pub data-lines : Figures → List ℕ
+data-lines f =
+    limit-line (f .limit)
+    ++ line "roamed" (decimal (f .roamed))
+    ++ line "past" (decimal (f .past))
+    ++ line "refused" (decimal (f .refused))
+
+-- the nine lines, or, of a bad file, one line: `file` and its number
+unfoldable pub text-of : Report → List ℕ
+text-of (Lines f) = money-lines f ++ data-lines f
+text-of (Refused n) = line "file" (decimal n)
+
+-- what is printed of a file's bytes
+abbrev pub statement-text : List ℕ → List ℕ
+statement-text f = text-of (report-of f)

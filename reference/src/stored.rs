@@ -1,0 +1,471 @@
+//! The stored inputs of the programs and what they must print: trip files made
+//! here, each with a name and a line that says what it is, and the output that
+//! this crate's meter gives.
+
+use crate::damage::{assemble, resum, set, to_bytes};
+use crate::meter::{Account, Answer};
+use crate::plan::{Plan, BUNDLE, PREPAID, UNLIMITED};
+use crate::statement::{figures_of, statement};
+use crate::terms::{Kind, Place};
+use crate::tripfile::{write, BEFORE_CALLS, MAX_CALLS, MAX_FILE};
+
+/// A trip file, or bytes that are none.
+#[derive(Clone, Debug)]
+pub struct StoredCase {
+    pub name: &'static str,
+    pub what: &'static str,
+    pub bytes: Vec<u8>,
+}
+
+/// Where the inputs of `statement` are, by pairs NAME.trip and NAME.out.
+pub const STATEMENT_FOLDER: &str = "examples/statement";
+
+/// Code and number of a call.
+type Words = (u32, u32);
+
+const HOME: Words = (1, 0);
+const ZONE: Words = (1, 1);
+const NEXT_DAY: Words = (7, 0);
+
+/// The plan and the calls of 01's example.
+const FERRY_PLAN: [u32; 7] = [PREPAID, 1461, 10_000, 600, 500, 0, 0];
+const FERRY_CALLS: [Words; 6] = [
+    (6, 22_000),
+    ZONE,
+    (2, 2_097_152),
+    (2, 1),
+    (2, 104_857),
+    (5, 1),
+];
+
+/// The cases that the program `statement` is run on, too.
+const OF_STATEMENT: [&str; 14] = [
+    "ferry",
+    "empty",
+    "eleven_bytes",
+    "other_start_day",
+    "gap_before_calls",
+    "no_calls_section",
+    "plan_of_32_bytes",
+    "code_8",
+    "form_3",
+    "start_180",
+    "limit_none",
+    "largest",
+    "largest_and_a_byte",
+    "largest_and_a_word",
+];
+
+/// All cases, in the order in which they are stored.
+pub fn cases() -> Vec<StoredCase> {
+    let mut all = vec![case("ferry", "the example of 01", ferry())];
+    all.extend(bad_tables());
+    all.extend(bad_bodies());
+    all.extend(trips());
+    all.extend(service_trips());
+    all.extend(large_files());
+    all
+}
+
+/// Those of `statement`.
+pub fn statement_cases() -> Vec<StoredCase> {
+    let mut all = cases();
+    all.retain(|case| OF_STATEMENT.contains(&case.name));
+    all
+}
+
+fn case(name: &'static str, what: &'static str, bytes: Vec<u8>) -> StoredCase {
+    StoredCase { name, what, bytes }
+}
+
+/// The file of a plan and calls that the writer takes.
+fn file(plan: [u32; 7], calls: &[Words]) -> Vec<u8> {
+    let (codes, numbers): (Vec<u32>, Vec<u32>) = calls.iter().copied().unzip();
+    let mut bytes = vec![0; BEFORE_CALLS + 8 * calls.len()];
+    write(&Plan::from_words(plan), &codes, &numbers, &mut bytes)
+        .expect("a plan and calls to write");
+    bytes
+}
+
+/// The body of a calls section.
+fn calls_body(calls: &[Words]) -> Vec<u8> {
+    let words = calls.iter().flat_map(|(code, number)| [*code, *number]);
+    to_bytes(&words.collect::<Vec<u32>>())
+}
+
+/// The file of a plan body and of calls of any words.
+fn any_file(plan: &[u32], calls: &[Words]) -> Vec<u8> {
+    assemble(&[(1, to_bytes(plan)), (2, calls_body(calls))])
+}
+
+fn ferry() -> Vec<u8> {
+    file(FERRY_PLAN, &FERRY_CALLS)
+}
+
+/// The example with one word of the file altered and the sum made right.
+fn ferry_with(index: usize, word: u32) -> Vec<u8> {
+    let mut bytes = ferry();
+    set(&mut bytes, index, word);
+    resum(&mut bytes);
+    bytes
+}
+
+/// The example with one call more.
+fn ferry_and(call: Words) -> Vec<u8> {
+    let mut calls = FERRY_CALLS.to_vec();
+    calls.push(call);
+    any_file(&FERRY_PLAN, &calls)
+}
+
+/// Bad files: 10 to 13.
+fn bad_tables() -> Vec<StoredCase> {
+    let mut longer = ferry();
+    longer.extend([0; 4]);
+    let mut other_day = ferry();
+    set(&mut other_day, 10, 1460);
+    let half = 1 << 31;
+    let mut wraps = ferry_with(4, 36 + half);
+    set(&mut wraps, 5, 28 + half);
+    resum(&mut wraps);
+    vec![
+        case("empty", "10: no bytes at all", Vec::new()),
+        case(
+            "eleven_bytes",
+            "10: the first 11 bytes of the example",
+            ferry()[..11].to_vec(),
+        ),
+        case("a_word_more", "10: the example and 4 bytes more", longer),
+        case(
+            "other_start_day",
+            "11: the example with another start day and the old sum",
+            other_day,
+        ),
+        case(
+            "gap_before_calls",
+            "12: the calls section starts 4 bytes late",
+            ferry_with(7, 68),
+        ),
+        case(
+            "nine_sections",
+            "12: a count of nine sections",
+            ferry_with(2, 9),
+        ),
+        case(
+            "plan_wraps",
+            "12: the plan's start and length are right only if sums wrap",
+            wraps,
+        ),
+        case(
+            "plan_twice",
+            "13: both sections are plans",
+            ferry_with(6, 1),
+        ),
+        case(
+            "no_calls_section",
+            "13: a section of kind 3 in the place of the calls",
+            ferry_with(6, 3),
+        ),
+    ]
+}
+
+/// Bad files: 14, 15, 1 and 2.
+fn bad_bodies() -> Vec<StoredCase> {
+    let longer_plan = [&FERRY_PLAN[..], &[0]].concat();
+    vec![
+        case(
+            "plan_of_32_bytes",
+            "14: the plan section has 32 bytes",
+            any_file(&longer_plan, &FERRY_CALLS),
+        ),
+        case(
+            "no_calls",
+            "14: the calls section is empty",
+            any_file(&FERRY_PLAN, &[]),
+        ),
+        case("code_8", "15: a seventh call of code 8", ferry_and((8, 0))),
+        case(
+            "register_3",
+            "15: a seventh call registers at place 3",
+            ferry_and((1, 3)),
+        ),
+        case(
+            "next_day_1",
+            "15: a seventh call is a next day of number 1",
+            ferry_and((7, 1)),
+        ),
+        case("form_3", "1: a plan of form 3", ferry_with(9, 3)),
+        case(
+            "prepaid_with_fee",
+            "1: a prepaid plan with a fee",
+            ferry_with(14, 1),
+        ),
+        case(
+            "start_180",
+            "2: a start day before the first",
+            ferry_with(10, 180),
+        ),
+    ]
+}
+
+fn trips() -> Vec<StoredCase> {
+    let turned = assemble(&[
+        (2, calls_body(&FERRY_CALLS)),
+        (1, to_bytes(&FERRY_PLAN)),
+        (9, to_bytes(&[1, 2, 3])),
+    ]);
+    let closed = [BUNDLE, 1096, 5000, 600, 500, 20_000, 1_048_576];
+    let limit_none = [
+        (6, 10_000),
+        ZONE,
+        (2, 2_000_000),
+        NEXT_DAY,
+        (3, 90),
+        (4, 90),
+    ];
+    let unlimited = [UNLIMITED, 181, 0, 100, 50, 300_000, 0];
+    let mut heavy = vec![(6, 500_000), ZONE];
+    for _ in 0..40 {
+        heavy.extend([(2, 20_000_000), NEXT_DAY]);
+    }
+    vec![
+        case(
+            "calls_first",
+            "the example with the calls first and a section of kind 9",
+            turned,
+        ),
+        case(
+            "limit_none",
+            "a bundle that is not open: no limit",
+            file(closed, &limit_none),
+        ),
+        case(
+            "past_the_limit",
+            "unlimited, 20,000,000 zone kB a day: two a month accepted, the second partly past L",
+            file(unlimited, &heavy),
+        ),
+    ]
+}
+
+/// From day 181 on: zone days until the service is Surcharged, which is at the
+/// 138th day change (123 to be Warned, 15 to decide), uses that then bear the
+/// surcharge, so much at home that the service is Clear at the next change,
+/// and uses in the zone without a surcharge.
+fn service_trip(daily: &[Words], borne: &[Words], at_home: Words, spared: &[Words]) -> Vec<u8> {
+    let mut calls = vec![(6, 10_000_000), ZONE];
+    for _ in 0..138 {
+        calls.extend(daily);
+        calls.push(NEXT_DAY);
+    }
+    calls.extend(borne);
+    calls.extend([HOME, at_home, NEXT_DAY, ZONE]);
+    calls.extend(spared);
+    file([PREPAID, 181, 10_000, 600, 500, 0, 0], &calls)
+}
+
+fn service_trips() -> Vec<StoredCase> {
+    let gb = 1_048_576;
+    let calls = [(3, 60), (4, 60)];
+    let mut wavering = vec![(6, 10_000_000), ZONE];
+    for day in 0..138 {
+        wavering.extend([if day == 123 { HOME } else { (2, 100) }, NEXT_DAY]);
+    }
+    wavering.extend([ZONE, (2, gb)]);
+    vec![
+        case(
+            "data_service",
+            "data Warned, Surcharged (1 GB bears it) and cleared",
+            service_trip(&[(2, 100)], &[(2, gb)], (2, 2 * gb), &[(2, gb)]),
+        ),
+        case(
+            "calls_service",
+            "calls Warned, Surcharged (a minute out and one in bear it) and cleared",
+            service_trip(&calls, &calls, (3, 20_000), &calls),
+        ),
+        case(
+            "message_service",
+            "SMS Warned, Surcharged (10 SMS bear it) and cleared",
+            service_trip(&[(5, 1)], &[(5, 10)], (5, 200), &[(5, 10)]),
+        ),
+        case(
+            "data_spared",
+            "data Warned and, after 15 days at home, Clear again: no surcharge",
+            file([PREPAID, 181, 10_000, 600, 500, 0, 0], &wavering),
+        ),
+    ]
+}
+
+/// A prepaid plan with as many calls as a file can hold: each kind of use on
+/// each day, 150 days in the zone and 150 outside it in turn, so that all
+/// services are Warned, Surcharged and cleared; a top-up every 30 days, and
+/// now and then a use that is refused.
+fn largest() -> Vec<u8> {
+    let mut calls = Vec::new();
+    for day in 0.. {
+        let place = match day / 150 % 2 {
+            0 => 1,
+            _ if day % 5 == 0 => 2,
+            _ => 0,
+        };
+        if day % 30 == 0 {
+            calls.extend([(6, 4_000_000 + day), (2, 0)]);
+        }
+        calls.extend([
+            (1, place),
+            (2, 90_000 + day),
+            (3, 90),
+            (4, 45),
+            (5, 3),
+            NEXT_DAY,
+        ]);
+        if calls.len() >= MAX_CALLS {
+            break;
+        }
+    }
+    calls.truncate(MAX_CALLS);
+    file([PREPAID, 181, 20_000, 600, 500, 0, 0], &calls)
+}
+
+fn large_files() -> Vec<StoredCase> {
+    let largest = largest();
+    assert_eq!(largest.len(), MAX_FILE);
+    let mut byte_over = largest.clone();
+    byte_over.push(0);
+    let mut word_over = largest.clone();
+    word_over.extend([0; 4]);
+    set(&mut word_over, 0, MAX_FILE as u32 + 4);
+    resum(&mut word_over);
+    vec![
+        case(
+            "largest",
+            "the largest file: 8,184 calls, 65,536 bytes",
+            largest,
+        ),
+        case(
+            "largest_and_a_byte",
+            "10: the largest file and one byte more",
+            byte_over,
+        ),
+        case(
+            "largest_and_a_word",
+            "10: the largest file and a word more, length and sum right",
+            word_over,
+        ),
+    ]
+}
+
+/// What the program `trip_cases` prints of a file: the figures in a line.
+fn line(bytes: &[u8]) -> String {
+    let [day, paid, credit, home, extra, known, limit, roamed, past, refused] =
+        match figures_of(bytes) {
+            Ok(figures) => figures,
+            Err(number) => return format!("file {number}"),
+        };
+    let limit = match known {
+        0 => "none".to_string(),
+        _ => limit.to_string(),
+    };
+    format!("{day} {paid} {credit} {home} {extra} {limit} {roamed} {past} {refused}")
+}
+
+/// The input of the program `trip_cases`: each file after its length.
+fn trip_cases_input() -> Vec<u8> {
+    let with_length =
+        |case: StoredCase| [to_bytes(&[case.bytes.len() as u32]), case.bytes].concat();
+    cases().into_iter().flat_map(with_length).collect()
+}
+
+fn trip_cases_output() -> String {
+    cases()
+        .iter()
+        .map(|case| line(&case.bytes) + "\n")
+        .collect()
+}
+
+/// The list of the cases as text.
+fn trip_cases_list() -> String {
+    let mut text = "# The stored trip files\n\n\
+        `stdin` holds these files, each after its length as a word; `stdout` what the program prints, one line for each.\n\
+        `cargo run --release --bin stored_cases` in `reference/` makes all three; the lines come from the second\n\
+        implementation. A test there holds them to what it makes. A number before a colon is the one that reading gives.\n\n\
+        | line | name | bytes | what it is |\n|---|---|---|---|\n"
+        .to_string();
+    for (index, case) in cases().iter().enumerate() {
+        let (line, bytes) = (index + 1, case.bytes.len());
+        text += &format!("| {line} | `{}` | {bytes} | {} |\n", case.name, case.what);
+    }
+    text
+}
+
+/// The calls that the program `account_cost` is asked for: a letter and a
+/// digit, which stands for hundreds.
+pub const ACCOUNT_COST: &str = "u1r1t1n1a1";
+
+/// What `account_cost` prints for a letter and a digit: how many calls were
+/// accepted, and the credit, the day or the most that Afford then gives. The
+/// account is prepaid, in the zone, topped up a hundred times by 1,000 points,
+/// and has gone through 130 days.
+fn account_cost_line(letter: char, hundreds: u32) -> String {
+    let plan = Plan::from_words([PREPAID, 181, 1_000_000, 600, 500, 0, 0]);
+    let mut account = Account::open(plan).expect("a plan in its ranges");
+    let mut accepted = account.register(Place::Zone).is_ok();
+    for _ in 0..100 {
+        accepted &= account.top_up(1000).is_ok();
+    }
+    for _ in 0..130 {
+        accepted &= account.next_day().is_ok();
+    }
+    assert!(accepted, "the calls before are accepted");
+    let mut call = || match letter {
+        'u' => account.use_units(Kind::Data, 1),
+        'r' => account.register(Place::Zone),
+        't' => account.top_up(1000),
+        'n' => account.next_day(),
+        _ => account.afford(Kind::Data),
+    };
+    let answers: Vec<_> = (0..100 * hundreds).map(|_| call()).collect();
+    let accepted = answers.iter().filter(|answer| answer.is_ok()).count();
+    let shown = match (letter, answers.last()) {
+        ('n', _) => u64::from(account.day),
+        ('a', Some(Ok(Answer::Most(most)))) => *most,
+        _ => account.credit,
+    };
+    format!("{letter} {accepted} {shown}\n")
+}
+
+fn account_cost_output() -> String {
+    let letters: Vec<char> = ACCOUNT_COST.chars().collect();
+    let pair = |pair: &[char]| account_cost_line(pair[0], pair[1].to_digit(10).unwrap_or(0));
+    letters.chunks_exact(2).map(pair).collect()
+}
+
+/// All stored files that are made here, by their paths in the repository.
+pub fn files() -> Vec<(String, Vec<u8>)> {
+    let mut all = vec![
+        ("crates/trip_cases/stdin".to_string(), trip_cases_input()),
+        (
+            "crates/trip_cases/stdout".to_string(),
+            trip_cases_output().into_bytes(),
+        ),
+        (
+            "crates/trip_cases/CASES.md".to_string(),
+            trip_cases_list().into_bytes(),
+        ),
+        ("crates/account_cost/stdin".to_string(), ACCOUNT_COST.into()),
+        (
+            "crates/account_cost/stdout".to_string(),
+            account_cost_output().into_bytes(),
+        ),
+    ];
+    for StoredCase { name, bytes, .. } in statement_cases() {
+        let printed = statement(&bytes).into_bytes();
+        all.push((format!("{STATEMENT_FOLDER}/{name}.trip"), bytes));
+        all.push((format!("{STATEMENT_FOLDER}/{name}.out"), printed));
+    }
+    all
+}
+
+/// The case of a name.
+pub fn named(name: &str) -> StoredCase {
+    let found = cases().into_iter().find(|case| case.name == name);
+    found.expect("a case of that name")
+}

@@ -1,0 +1,166 @@
+//! What the writer is asked to write: what a file was read as, and random
+//! plans, calls and buffers with none, one or several reasons to decline them.
+
+use crate::generate::any_plan;
+use crate::plan::{BUNDLE, PREPAID};
+use crate::rng::Rng;
+use crate::tripfile::{Trip, BEFORE_CALLS, MAX_CALLS};
+
+/// A writer: plan, codes, numbers, buffer; see `Side`.
+pub type Writer = fn(&[u64; 7], &[u32], &[u32], &mut [u8]) -> u64;
+
+/// One write and the number that declines it, 0 where it must be done.
+#[derive(Clone, PartialEq, Eq, Debug)]
+pub struct WriteCase {
+    /// The plan's seven words. The form is a known one; the others may be any
+    /// number.
+    pub plan: [u64; 7],
+    pub codes: Vec<u32>,
+    pub numbers: Vec<u32>,
+    /// The buffer before.
+    pub buffer: Vec<u8>,
+    pub expected: u32,
+}
+
+impl WriteCase {
+    /// What a file was read as, into a buffer that is long enough or, in one
+    /// of eight cases, not.
+    pub fn again(trip: &Trip, rng: &mut Rng) -> WriteCase {
+        let (codes, numbers): (Vec<u32>, Vec<u32>) = trip.calls.iter().copied().unzip();
+        let need = BEFORE_CALLS + 8 * codes.len();
+        let short = rng.below(8) == 0;
+        let room = room(rng, need, short);
+        WriteCase {
+            plan: trip.plan.to_words().map(u64::from),
+            codes,
+            numbers,
+            buffer: rng.bytes(room),
+            expected: if short { 16 } else { 0 },
+        }
+    }
+
+    /// A random write. Each of the five reasons is there in one of five
+    /// cases, so that all sets of them arise; the first in 01's order counts.
+    pub fn random(rng: &mut Rng) -> WriteCase {
+        let mut plan = any_plan(rng).to_words().map(u64::from);
+        let (mut codes, mut numbers) = right_calls(rng);
+        let mut short = false;
+        let mut expected = 0;
+        for number in [16, 15, 14, 2, 1] {
+            if !rng.chance(20) {
+                continue;
+            }
+            expected = number;
+            match number {
+                1 => plan_out_of_range(rng, &mut plan),
+                2 => plan[1] = rng.pick(&NO_START_DAYS),
+                14 => wrong_count(rng, &mut codes, &mut numbers),
+                15 => wrong_call(rng, &mut codes, &mut numbers),
+                _ => short = true,
+            }
+        }
+        let need = BEFORE_CALLS + 8 * codes.len();
+        let room = room(rng, need, short);
+        WriteCase {
+            plan,
+            codes,
+            numbers,
+            buffer: rng.bytes(room),
+            expected,
+        }
+    }
+
+    /// The answer of a writer, which fills the buffer.
+    pub fn run(&self, writer: Writer, buffer: &mut [u8]) -> u64 {
+        writer(&self.plan, &self.codes, &self.numbers, buffer)
+    }
+
+    /// What is written, in a line.
+    pub fn outline(&self) -> String {
+        format!(
+            "plan {:?}, {} codes, {} numbers, {} bytes of room",
+            self.plan,
+            self.codes.len(),
+            self.numbers.len(),
+            self.buffer.len()
+        )
+    }
+}
+
+const NO_START_DAYS: [u64; 6] = [0, 180, 3834, 1 << 31, (1 << 32) + 181, u64::MAX];
+
+/// Room for so many bytes and up to 40 more, or for fewer.
+fn room(rng: &mut Rng, need: usize, short: bool) -> usize {
+    match (short, rng.below(3)) {
+        (true, 0) => need - 1,
+        (true, _) => rng.below(need as u64) as usize,
+        (false, 0) => need,
+        (false, _) => need + rng.between(1, 40) as usize,
+    }
+}
+
+/// Some calls that keep rule 15, at times as many as a file can hold.
+fn right_calls(rng: &mut Rng) -> (Vec<u32>, Vec<u32>) {
+    let count = match rng.below(50) {
+        0 => MAX_CALLS as u64,
+        _ => rng.between(1, 40),
+    };
+    (0..count).map(|_| right_call(rng)).unzip()
+}
+
+fn right_call(rng: &mut Rng) -> (u32, u32) {
+    let code = rng.between(1, 7) as u32;
+    let number = match code {
+        1 => rng.below(3) as u32,
+        7 => 0,
+        _ => rng.word() as u32,
+    };
+    (code, number)
+}
+
+/// 1: a price, fee or V above its range, or a field that the form leaves out.
+fn plan_out_of_range(rng: &mut Rng, plan: &mut [u64; 7]) {
+    let wide = [(1 << 32) - 1, 1 << 32, u64::MAX];
+    let above = |rng: &mut Rng, most: u64| match rng.below(4) {
+        0 => rng.pick(&wide),
+        _ => most + 1,
+    };
+    let unused = match plan[0] as u32 {
+        PREPAID => rng.pick(&[5, 6]),
+        BUNDLE => 6,
+        _ => rng.pick(&[2, 6]),
+    };
+    match rng.below(4) {
+        0 => plan[rng.between(2, 4) as usize] = above(rng, 1_000_000),
+        1 => plan[5] = above(rng, 10_000_000),
+        2 => plan[6] = above(rng, 1_073_741_824),
+        _ => plan[unused] = u64::from(plan[0] as u32 != BUNDLE),
+    }
+}
+
+/// 14: no calls, one more than a file can hold, or unequal counts.
+fn wrong_count(rng: &mut Rng, codes: &mut Vec<u32>, numbers: &mut Vec<u32>) {
+    match rng.below(6) {
+        0 => {
+            codes.clear();
+            numbers.clear();
+        }
+        1 => {
+            codes.resize(MAX_CALLS + 1, 2);
+            numbers.resize(MAX_CALLS + 1, 1);
+        }
+        2 => numbers.push(0),
+        3 => codes.push(7),
+        4 => numbers.clear(),
+        _ => {
+            codes.pop();
+        }
+    }
+}
+
+/// 15: one call with a bad code or number.
+fn wrong_call(rng: &mut Rng, codes: &mut [u32], numbers: &mut [u32]) {
+    let at = rng.below(codes.len() as u64) as usize;
+    let bad = [(0, 0), (8, 0), (u32::MAX, 1), (1, 3), (1, 1 << 31), (7, 1)];
+    (codes[at], numbers[at]) = rng.pick(&bad);
+}

@@ -1,0 +1,149 @@
+//! The stored inputs and outputs of the programs are those that the maker
+//! gives, and hold what they are for. Figures here were worked out by hand.
+
+use reference::meter::Account;
+use reference::services::State;
+use reference::statement::{figures_of, statement};
+use reference::stored::{cases, files, named, statement_cases, STATEMENT_FOLDER};
+use reference::terms::{Call, Service};
+use reference::tripfile::read;
+use std::collections::BTreeSet;
+use std::path::{Path, PathBuf};
+
+fn in_repository(path: &str) -> PathBuf {
+    Path::new(env!("CARGO_MANIFEST_DIR")).join("..").join(path)
+}
+
+/// To make them anew: cargo run --release --bin stored_cases.
+#[test]
+fn stored_files_are_those_of_the_maker() {
+    for (path, bytes) in files() {
+        let stored = std::fs::read(in_repository(&path)).unwrap_or_default();
+        assert!(stored == bytes, "{path} is not what stored_cases makes");
+    }
+    let made: BTreeSet<PathBuf> = files().iter().map(|f| in_repository(&f.0)).collect();
+    for entry in std::fs::read_dir(in_repository(STATEMENT_FOLDER)).unwrap() {
+        let path = entry.unwrap().path();
+        assert!(made.contains(&path), "{} has no maker", path.display());
+    }
+}
+
+#[test]
+fn names_are_unique_and_numbers_are_as_told() {
+    let names: BTreeSet<&str> = cases().iter().map(|case| case.name).collect();
+    assert_eq!(names.len(), cases().len());
+    for case in cases() {
+        let told = case.what.split_once(':').map(|(number, _)| number.parse());
+        let told = told.and_then(|number| number.ok());
+        assert_eq!(figures_of(&case.bytes).err(), told, "{}", case.name);
+    }
+}
+
+#[test]
+fn statement_is_run_on_each_number_and_length() {
+    let numbers = statement_cases()
+        .into_iter()
+        .filter_map(|case| read(&case.bytes).err());
+    let numbers: BTreeSet<u32> = numbers.collect();
+    assert_eq!(Vec::from_iter(numbers), [1, 2, 10, 11, 12, 13, 14, 15]);
+    let lengths: BTreeSet<usize> = statement_cases()
+        .iter()
+        .map(|case| case.bytes.len())
+        .collect();
+    for length in [0, 65_536, 65_537, 65_540] {
+        assert!(lengths.contains(&length));
+    }
+    let ferry = "day 1461\npaid 22000\ncredit 1500\nhome 20500\nextra 0\nlimit 2097152\n\
+                 roamed 2097153\npast 1\nrefused 1\n";
+    assert_eq!(statement(&named("ferry").bytes), ferry);
+    assert!(statement(&named("limit_none").bytes).contains("\nlimit none\n"));
+}
+
+/// The states that a service goes through in a case.
+fn states(name: &str, service: Service) -> Vec<State> {
+    let trip = read(&named(name).bytes).unwrap();
+    let mut account = Account::open(trip.plan).unwrap();
+    let mut states = vec![State::Clear];
+    for (code, number) in trip.calls {
+        account
+            .apply(Call::from_words(code, number).unwrap())
+            .unwrap();
+        let state = match account.states[service as usize] {
+            State::Warned(_) => State::Warned(0),
+            state => state,
+        };
+        if states.last() != Some(&state) {
+            states.push(state);
+        }
+    }
+    states
+}
+
+/// Credit, home charges, surcharges and surcharged kB of a case.
+fn money(name: &str) -> [u64; 4] {
+    let figures = figures_of(&named(name).bytes).unwrap();
+    [figures[2], figures[3], figures[4], figures[8]]
+}
+
+#[test]
+fn each_service_is_warned_surcharged_and_cleared() {
+    let all = [
+        State::Clear,
+        State::Warned(0),
+        State::Surcharged,
+        State::Clear,
+    ];
+    assert_eq!(states("data_service", Service::Data), all);
+    assert_eq!(states("calls_service", Service::Calls), all);
+    assert_eq!(states("message_service", Service::Sms), all);
+    let spared = [State::Clear, State::Warned(0), State::Clear];
+    assert_eq!(states("data_spared", Service::Data), spared);
+}
+
+#[test]
+fn charges_of_the_services() {
+    // 13,800 kB and 4 GB at 10,000 points a GB; one GB at the cap of 20,000.
+    assert_eq!(
+        money("data_service"),
+        [9_939_869, 40_131, 20_000, 1_048_576]
+    );
+    // 28,400 s at 600 points a minute; a minute at 220 and one at 55.
+    assert_eq!(money("calls_service"), [9_715_725, 284_000, 275, 0]);
+    // 358 SMS at 500 points; ten at 40.
+    assert_eq!(money("message_service"), [9_820_600, 179_000, 400, 0]);
+    // 13,700 kB and 1 GB at 10,000 points a GB.
+    assert_eq!(money("data_spared"), [9_989_870, 10_130, 0, 0]);
+}
+
+#[test]
+fn the_largest_file_takes_all_services_through_all_states() {
+    let trip = read(&named("largest").bytes).unwrap();
+    let mut account = Account::open(trip.plan).unwrap();
+    let mut steps = BTreeSet::new();
+    for (code, number) in trip.calls {
+        let before = account.states;
+        let _ = account.apply(Call::from_words(code, number).unwrap());
+        for (service, states) in before.into_iter().zip(account.states).enumerate() {
+            match states {
+                (State::Clear, State::Warned(_)) => steps.insert((service, 0)),
+                (State::Warned(_), State::Surcharged) => steps.insert((service, 1)),
+                (State::Surcharged, State::Clear) => steps.insert((service, 2)),
+                _ => false,
+            };
+        }
+    }
+    assert_eq!(steps.len(), 9);
+}
+
+/// 100 kB at 1,000,000 points a GB cost 95 points; registering again costs
+/// nothing; 100 top-ups of 1,000; 100 days after day 311; 104,858 kB cost
+/// 100,000 points, and one more 100,001.
+#[test]
+fn calls_of_account_cost() {
+    let (_, bytes) = files()
+        .into_iter()
+        .find(|file| file.0 == "crates/account_cost/stdout")
+        .unwrap();
+    let lines = "u 100 99905\nr 100 100000\nt 100 200000\nn 100 411\na 100 104858\n";
+    assert_eq!(String::from_utf8(bytes).unwrap(), lines);
+}
