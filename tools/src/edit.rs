@@ -101,8 +101,8 @@ pub struct Applied {
     before: BTreeMap<PathBuf, String>,
 }
 
-/// Makes the replacements in the crate's folder. Where one cannot be made, all is as before.
-pub fn apply(dir: &Path, edit: &[Replacement]) -> Result<Applied, String> {
+/// The files that the edit changes, before and after it, or why it cannot be made.
+pub fn texts(dir: &Path, edit: &[Replacement]) -> Result<[BTreeMap<PathBuf, String>; 2], String> {
     let mut before = BTreeMap::new();
     let mut after: BTreeMap<PathBuf, String> = BTreeMap::new();
     for r in edit {
@@ -115,6 +115,12 @@ pub fn apply(dir: &Path, edit: &[Replacement]) -> Result<Applied, String> {
         let edited = replace(&after[&path], r).map_err(|e| format!("{}: {e}", r.file))?;
         after.insert(path, edited);
     }
+    Ok([before, after])
+}
+
+/// Makes the replacements in the crate's folder. Where one cannot be made, all is as before.
+pub fn apply(dir: &Path, edit: &[Replacement]) -> Result<Applied, String> {
+    let [before, after] = texts(dir, edit)?;
     for (path, text) in &after {
         fs::write(path, text).map_err(|e| format!("{}: {e}", path.display()))?;
     }

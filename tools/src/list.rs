@@ -58,6 +58,7 @@ fn crate_at(dir: &Path, name: String) -> Result<Crate, String> {
             .ok_or(format!("crates/{name}/edits/{file} is no .edit file"))?;
         let text = fs::read_to_string(&path).map_err(|e| format!("{name}/{file}: {e}"))?;
         let replacements = edit::parse(&text).map_err(|e| format!("{name}/{file}: {e}"))?;
+        edit::texts(dir, &replacements).map_err(|e| format!("{name}/{file} does not fit: {e}"))?;
         edits.push(Edit {
             name: label.to_string(),
             replacements,
