@@ -198,7 +198,7 @@ pub fn claims_below(crates: &Path) -> Result<Vec<Claim>, String> {
 }
 
 /// The path of a module: the crate for src/lib.rt, `CRATE::a::b` for src/a/b.rt.
-fn module(krate: &str, file: &Path) -> String {
+pub fn module(krate: &str, file: &Path) -> String {
     let parts = file.with_extension("");
     let names: Vec<String> = parts
         .iter()

@@ -12,7 +12,7 @@ use std::collections::BTreeMap;
 use std::fs;
 use std::path::{Path, PathBuf};
 
-#[derive(Debug, PartialEq, Eq)]
+#[derive(Debug, Clone, PartialEq, Eq)]
 pub struct Replacement {
     pub file: String,
     pub after: Option<String>,
@@ -63,17 +63,21 @@ fn checked_name(name: &str) -> Result<String, String> {
     Ok(name.to_string())
 }
 
+/// Where the old text is.
+pub fn position(text: &str, r: &Replacement) -> Result<usize, String> {
+    let Some(mark) = &r.after else {
+        return once(text, &r.old, "'old:' text");
+    };
+    let from = once(text, mark, "'after:' text")? + mark.len();
+    let place = text[from..].find(&r.old);
+    place
+        .map(|at| from + at)
+        .ok_or(format!("the 'old:' text is not there after: {mark}"))
+}
+
 /// The text with the replacement made in it.
 pub fn replace(text: &str, r: &Replacement) -> Result<String, String> {
-    let at = match &r.after {
-        None => once(text, &r.old, "'old:' text")?,
-        Some(mark) => {
-            let from = once(text, mark, "'after:' text")? + mark.len();
-            from + text[from..]
-                .find(&r.old)
-                .ok_or(format!("the 'old:' text is not there after: {mark}"))?
-        }
-    };
+    let at = position(text, r)?;
     if r.old == r.new {
         return Err("the new text is the old one".into());
     }
@@ -121,6 +125,31 @@ pub fn texts(dir: &Path, edit: &[Replacement]) -> Result<[BTreeMap<PathBuf, Stri
 /// Makes the replacements in the crate's folder. Where one cannot be made, all is as before.
 pub fn apply(dir: &Path, edit: &[Replacement]) -> Result<Applied, String> {
     let [before, after] = texts(dir, edit)?;
+    for (path, text) in &after {
+        fs::write(path, text).map_err(|e| format!("{}: {e}", path.display()))?;
+    }
+    Ok(Applied { before })
+}
+
+/// Makes the replacements of several edits of different places, each found in the text as it was.
+pub fn apply_together(dir: &Path, all: &[Replacement]) -> Result<Applied, String> {
+    let mut before: BTreeMap<PathBuf, String> = BTreeMap::new();
+    let mut places = Vec::new();
+    for r in all {
+        let path = dir.join(&r.file);
+        if !before.contains_key(&path) {
+            let text = fs::read_to_string(&path).map_err(|e| format!("{}: {e}", r.file))?;
+            before.insert(path.clone(), text);
+        }
+        places.push((path.clone(), position(&before[&path], r)?, r));
+    }
+    places.sort_by_key(|(_, at, _)| std::cmp::Reverse(*at));
+    let mut after = before.clone();
+    for (path, at, r) in places {
+        if let Some(text) = after.get_mut(&path) {
+            text.replace_range(at..at + r.old.len(), &r.new);
+        }
+    }
     for (path, text) in &after {
         fs::write(path, text).map_err(|e| format!("{}: {e}", path.display()))?;
     }

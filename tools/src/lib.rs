@@ -1,4 +1,5 @@
 //! What `./test` needs besides the toolchain: the runner of edits and the check of the list of claims.
+pub mod batch;
 pub mod claims;
 pub mod edit;
 pub mod folder;

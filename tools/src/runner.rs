@@ -1,9 +1,11 @@
-//! Tries the edits of crates: each worker has a copy of the repository, in which a crate is checked once as it is, then
-//! with each of its edits over the same incremental folder, and last again as it is.
+//! Tries the edits of crates: each worker has a copy of the repository, in which a crate is checked once as
+//! it is, then with its edits over the same incremental folder, several at a time where they can be told
+//! apart, and last again as it is.
+use crate::batch::{self, Batch};
 use crate::edit;
 use crate::folder;
 use crate::list::{Crate, Edit};
-use crate::verdict::{judge, Verdict};
+use crate::verdict::{judge, own_refusal, Verdict};
 use std::fs;
 use std::path::{Path, PathBuf};
 use std::process::{Command, Stdio};
@@ -84,7 +86,11 @@ fn try_crate(settings: &Run, board: &Mutex<Board>, dir: &Path, c: &Crate) {
     if !as_it_is(board, dir, c, "before its edits", &log("_before")) {
         return;
     }
-    for e in &c.edits {
+    let (batches, mut single) = batch::plan(&dir.join("crates").join(&c.name), &c.name, &c.edits);
+    for b in &batches {
+        single.extend(try_batch(board, dir, c, b, &log));
+    }
+    for e in single {
         try_edit(board, dir, c, e, &log(&e.name));
     }
     as_it_is(
@@ -120,6 +126,47 @@ fn as_it_is(board: &Mutex<Board>, dir: &Path, c: &Crate, when: &str, log: &Path)
     }
 }
 
+/// Tries edits of several functions in one check; what cannot be told from it is handed back.
+fn try_batch<'a>(
+    board: &Mutex<Board>,
+    dir: &Path,
+    c: &Crate,
+    b: &Batch<'a>,
+    log: &dyn Fn(&str) -> PathBuf,
+) -> Vec<&'a Edit> {
+    let began = Instant::now();
+    let all: Vec<_> = b.iter().flat_map(|(e, _)| e.replacements.clone()).collect();
+    let alone: Vec<&Edit> = b.iter().map(|(e, _)| *e).collect();
+    let Ok(applied) = edit::apply_together(&dir.join("crates").join(&c.name), &all) else {
+        return alone;
+    };
+    let said = ask(dir, &c.name);
+    if let Err(m) = applied.put_back() {
+        note(
+            board,
+            format!("{}: the file cannot be put back: {m}", c.name),
+        );
+        return Vec::new();
+    }
+    let Ok((status, text)) = said else {
+        return alone;
+    };
+    let took = began.elapsed().as_secs_f64();
+    let mut left = Vec::new();
+    for (e, path) in b {
+        let refused = own_refusal(status, &text, path);
+        match refused.filter(|_| keep(&log(&e.name), &text).is_ok()) {
+            Some(m) => {
+                let others = b.len() - 1;
+                let said = format!("refused (with {others} more, {took:.1} s): {}", short(&m));
+                count(board, c, e, true, said);
+            }
+            None => left.push(*e),
+        }
+    }
+    left
+}
+
 fn try_edit(board: &Mutex<Board>, dir: &Path, c: &Crate, e: &Edit, log: &Path) {
     let began = Instant::now();
     let verdict = match edit::apply(&dir.join("crates").join(&c.name), &e.replacements) {
@@ -145,6 +192,11 @@ fn try_edit(board: &Mutex<Board>, dir: &Path, c: &Crate, e: &Edit, log: &Path) {
         ),
         Verdict::Failed(m) => (false, format!("NOT TRIED ({took:.1} s): {}", short(&m))),
     };
+    count(board, c, e, right, said);
+}
+
+/// Counts an edit as tried and shows what came of it.
+fn count(board: &Mutex<Board>, c: &Crate, e: &Edit, right: bool, said: String) {
     let mut b = board.lock().expect("no worker panics");
     b.tried += 1;
     println!(
@@ -158,26 +210,34 @@ fn try_edit(board: &Mutex<Board>, dir: &Path, c: &Crate, e: &Edit, log: &Path) {
 
 /// Runs `rt dev` on the crate in the worker's copy and keeps what it said.
 fn check(dir: &Path, name: &str, log: &Path) -> Verdict {
-    let ended = Command::new("rt")
+    match ask(dir, name).and_then(|(status, text)| keep(log, &text).map(|()| (status, text))) {
+        Ok((status, text)) => judge(status, &text),
+        Err(m) => Verdict::Failed(m),
+    }
+}
+
+/// What `rt dev` says of the crate, with its exit status; names of files are those of the crate.
+fn ask(dir: &Path, name: &str) -> Result<(Option<i32>, String), String> {
+    let mut command = Command::new("rt");
+    command
         .args(["dev", name])
         .current_dir(dir)
-        .stdin(Stdio::null())
-        .output();
-    let out = match ended {
-        Ok(out) => out,
-        Err(e) => return Verdict::Failed(format!("rt cannot be run: {e}")),
-    };
-    let text = format!(
-        "{}{}",
-        String::from_utf8_lossy(&out.stdout),
-        String::from_utf8_lossy(&out.stderr)
-    );
-    let folder = log.parent().unwrap_or(Path::new("."));
-    if let Err(e) = fs::create_dir_all(folder).and_then(|()| fs::write(log, &text)) {
-        return Verdict::Failed(format!("cannot write {}: {e}", log.display()));
-    }
+        .stdin(Stdio::null());
+    let out = command
+        .output()
+        .map_err(|e| format!("rt cannot be run: {e}"))?;
+    let said = [out.stdout, out.stderr].concat();
     let own = format!("{}/", dir.join("crates").join(name).display());
-    judge(out.status.code(), &text.replace(&own, ""))
+    Ok((
+        out.status.code(),
+        String::from_utf8_lossy(&said).replace(&own, ""),
+    ))
+}
+
+fn keep(log: &Path, text: &str) -> Result<(), String> {
+    let folder = log.parent().unwrap_or(Path::new("."));
+    let written = fs::create_dir_all(folder).and_then(|()| fs::write(log, text));
+    written.map_err(|e| format!("cannot write {}: {e}", log.display()))
 }
 
 /// The start of a message, which can run to thousands of characters.

@@ -40,6 +40,30 @@ pub fn judge(status: Option<i32>, output: &str) -> Verdict {
     }
 }
 
+/// Of an edit that was tried with others: the message of its own function, if that is what is not proved. Where
+/// it cannot be told, none: then the edit is tried alone.
+pub fn own_refusal(status: Option<i32>, output: &str, path: &str) -> Option<String> {
+    let not_proved = |l: &str| {
+        l.strip_prefix("logic=")
+            .is_some_and(|l| starts_word(l, "not-proved"))
+    };
+    if status != Some(1) || !output.lines().any(not_proved) {
+        return None;
+    }
+    let said = output
+        .lines()
+        .find_map(|l| l.strip_prefix(&format!("fn {path}: ")))?;
+    if said.starts_with("no proof") && said.contains("does not close") {
+        return Some(said.to_string());
+    }
+    let inner = path.split_once("::")?.1.replace("::", "/");
+    let place = format!("proofs/{inner}/Proof.antt:");
+    let own = |m: &String| m.contains(&place) && m.contains(": error") && !m.contains(FOLLOWS);
+    let first = messages(output).into_iter().find(own)?;
+    let hollow = HOLLOW.iter().any(|text| first.contains(text));
+    (said == "not proved" && !hollow).then_some(first)
+}
+
 fn starts_word(line: &str, word: &str) -> bool {
     line.split_whitespace().next() == Some(word)
 }
@@ -104,6 +128,19 @@ mod tests {
         assert!(matches!(judge(Some(1), out), Verdict::Hollow(_)));
         let out = "specs/Moves.antt:3:1: error: `f`: a type\nlogic=not-proved\n";
         assert!(matches!(judge(Some(1), out), Verdict::Hollow(_)));
+    }
+
+    #[test]
+    fn only_its_own_function_tells_of_an_edit_among_others() {
+        let out = "c/proofs/f/Proof.antt:1:1: error: `returns`: x\nfn c::f: not proved\n\
+                   fn c::g: not proved; it calls `c::f`, which is not proved\nfn c::h: proved\n\
+                   fn c::i: no proof: `search` does not close `returns`\nfn c::j: not proved\nlogic=not-proved\n";
+        assert!(own_refusal(Some(1), out, "c::f").is_some());
+        assert!(own_refusal(Some(1), out, "c::i").is_some());
+        for path in ["c::g", "c::h", "c::j", "c::k"] {
+            assert!(own_refusal(Some(1), out, path).is_none(), "{path}");
+        }
+        assert!(own_refusal(Some(2), out, "c::f").is_none());
     }
 
     #[test]
