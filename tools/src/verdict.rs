@@ -44,20 +44,34 @@ fn starts_word(line: &str, word: &str) -> bool {
     line.split_whitespace().next() == Some(word)
 }
 
-/// The first line with an error of its own, or else what a function is told not to keep, or else the first one not proved.
+/// The first error of its own, or else what a function is told not to keep, or else the first one not
+/// proved; with the indented lines that go on with it.
 pub fn first_message(output: &str) -> String {
+    let messages = messages(output);
     let with = |part: &str| {
-        output
-            .lines()
-            .find(|line| line.contains(part) && !line.contains(FOLLOWS))
+        let fits = |m: &&String| m.contains(part) && !m.contains(FOLLOWS);
+        messages.iter().find(fits).cloned()
     };
-    let line = with(": error")
-        .or_else(|| with("it is not proved"))
-        .or_else(|| with("not proved"));
-    line.or(output.lines().next())
-        .unwrap_or("it said nothing")
-        .trim()
-        .to_string()
+    let found = with(": error").or_else(|| with("it is not proved"));
+    let found = found.or_else(|| with("not proved"));
+    found
+        .or(messages.first().cloned())
+        .unwrap_or("it said nothing".into())
+}
+
+/// The lines of the output, each joined with the indented ones after it.
+fn messages(output: &str) -> Vec<String> {
+    let mut found: Vec<String> = Vec::new();
+    for line in output.lines() {
+        match found.last_mut() {
+            Some(last) if line.starts_with(' ') => {
+                last.push(' ');
+                last.push_str(line.trim());
+            }
+            _ => found.push(line.trim_end().to_string()),
+        }
+    }
+    found
 }
 
 /// In the message of a proof that only rests on one that failed.
@@ -84,6 +98,9 @@ mod tests {
     #[test]
     fn a_proof_that_only_became_unfit_shows_nothing() {
         let out = "proofs/f/Proof.antt:3:1: error: f has no `Need-2`\nlogic=not-proved\n";
+        assert!(matches!(judge(Some(1), out), Verdict::Hollow(_)));
+        let out =
+            "p/f/Proof.antt:3:1: error: record `After`\n  has no field `args`\nlogic=not-proved\n";
         assert!(matches!(judge(Some(1), out), Verdict::Hollow(_)));
         let out = "specs/Moves.antt:3:1: error: `f`: a type\nlogic=not-proved\n";
         assert!(matches!(judge(Some(1), out), Verdict::Hollow(_)));
