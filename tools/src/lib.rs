@@ -1,4 +1,4 @@
-//! What `./test` needs besides the toolchain: the runner of edits and the check of the list of claims.
+//! What `./test` needs besides the toolchain: the runner of edits and the check of the lists of claims and edits.
 pub mod batch;
 pub mod claims;
 pub mod edit;
@@ -7,3 +7,4 @@ pub mod list;
 pub mod runner;
 pub mod statements;
 pub mod verdict;
+pub mod wrong_programs;

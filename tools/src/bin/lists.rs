@@ -1,0 +1,39 @@
+//! Holds docs/CLAIMS.md and docs/EDITS.md to the tree, from the top of the repository. If all is well it ends with 0, and its
+//! last lines are `claims: N listed, 0 wrong` and `wrong programs: N listed, 0 wrong`.
+use std::path::Path;
+use std::process::ExitCode;
+use tools::claims::{self, Outcome};
+use tools::wrong_programs;
+
+fn main() -> ExitCode {
+    let root = Path::new(".");
+    let right = [
+        told("claims", claims::check(root)),
+        told("wrong programs", wrong_programs::check(root)),
+    ];
+    if right.iter().all(|r| *r) {
+        ExitCode::SUCCESS
+    } else {
+        ExitCode::from(1)
+    }
+}
+
+/// Shows what is wrong with a list; was nothing?
+fn told(name: &str, outcome: Result<Outcome, String>) -> bool {
+    let outcome = match outcome {
+        Ok(outcome) => outcome,
+        Err(message) => {
+            println!("{name}: {message}");
+            return false;
+        }
+    };
+    for line in &outcome.wrong {
+        println!("{name}: {line}");
+    }
+    println!(
+        "{name}: {} listed, {} wrong",
+        outcome.listed,
+        outcome.wrong.len()
+    );
+    outcome.wrong.is_empty()
+}
