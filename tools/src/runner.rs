@@ -1,6 +1,6 @@
-//! Tries the edits of crates: each worker has a copy of the repository, in which a crate is checked once as
-//! it is, then with its edits over the same incremental folder, several at a time where they can be told
-//! apart, and last again as it is.
+//! Tries the edits of crates, which are proved as they are: each worker has a copy of the repository, in which a
+//! crate is checked with its edits over one incremental folder, several at a time where they can be told apart,
+//! and last as it is.
 use crate::batch::{self, Batch};
 use crate::edit;
 use crate::folder;
@@ -83,9 +83,6 @@ fn note(board: &Mutex<Board>, line: String) {
 
 fn try_crate(settings: &Run, board: &Mutex<Board>, dir: &Path, c: &Crate) {
     let log = |name: &str| settings.logs.join(&c.name).join(format!("{name}.log"));
-    if !as_it_is(board, dir, c, "before its edits", &log("_before")) {
-        return;
-    }
     let (batches, mut single) = batch::plan(&dir.join("crates").join(&c.name), &c.name, &c.edits);
     for b in &batches {
         single.extend(try_batch(board, dir, c, b, &log));
@@ -93,36 +90,24 @@ fn try_crate(settings: &Run, board: &Mutex<Board>, dir: &Path, c: &Crate) {
     for e in single {
         try_edit(board, dir, c, e, &log(&e.name));
     }
-    as_it_is(
-        board,
-        dir,
-        c,
-        "after its edits, over the same folder",
-        &log("_after"),
-    );
+    as_it_is(board, dir, c, &log("_after"));
 }
 
-/// The crate without an edit must be proved.
-fn as_it_is(board: &Mutex<Board>, dir: &Path, c: &Crate, when: &str, log: &Path) -> bool {
+/// The crate without an edit must be proved, over the folder in which its edits were tried.
+fn as_it_is(board: &Mutex<Board>, dir: &Path, c: &Crate, log: &Path) {
     let began = Instant::now();
     let verdict = check(dir, &c.name, log);
     let took = began.elapsed().as_secs_f64();
     match verdict {
-        Verdict::Proved => {
-            println!("edits: {} proved {when} ({took:.1} s)", c.name);
-            true
-        }
-        Verdict::Refused(m) | Verdict::Hollow(m) | Verdict::Failed(m) => {
-            note(
-                board,
-                format!(
-                    "{} is NOT PROVED {when} ({took:.1} s): {}",
-                    c.name,
-                    short(&m)
-                ),
-            );
-            false
-        }
+        Verdict::Proved => println!("edits: {} proved as it is ({took:.1} s)", c.name),
+        Verdict::Refused(m) | Verdict::Hollow(m) | Verdict::Failed(m) => note(
+            board,
+            format!(
+                "{} is NOT PROVED as it is ({took:.1} s): {}",
+                c.name,
+                short(&m)
+            ),
+        ),
     }
 }
 

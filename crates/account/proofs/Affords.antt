@@ -1,4 +1,4 @@
--- What Afford returns, and that it is the largest use that is accepted. Assumes nothing.
+-- What Afford returns. Assumes nothing.
 use Prim.Native.Nat.{ℕ, _<_}
 use mathlib.Core.Path.{_≡_, refl, sym, _∙_, ap}
 use mathlib.Core.Bool.{Bool, true, false, not, cond}
@@ -19,7 +19,6 @@ use Rattle.account.specs.declared.Call.the-variants.{Use, Afford}
 use Rattle.account.specs.Whole.{sound}
 use Rattle.account.specs.Calls.{own-reasons, reasons, verdict, accepts, after, step}
 use Rattle.account.specs.Answers.{afford-of, afford-result}
-use Rattle.account.specs.Claims.{AffordIsLargest, AffordChangesNothing}
 
 pub afford-unsound : (a : Account) (k : Kind) → sound a ≡ false → _≡_ {A = Afforded} (record { answer = Withheld 0; account = a }) (afford-result a k)
 unfolding afford-result verdict reasons verdict-of step accepts
@@ -44,29 +43,11 @@ module _ (a : Account) (k : Kind) (s : sound a ≡ true) where
       let q : r ≡ afford-of a k = e ∙ sym (afford-is a k s) in
       rw (s, p, ← q) refl
 
--- refusal 4 holds for every larger number
-refused-many : (a : Account) (k : Kind) (n : ℕ) → 1000000000 < n → accepts a (Use k n) ≡ false
-unfolding accepts verdict reasons own-reasons use-reasons verdict-of
-refused-many a k n h = rw (lt-leb n 1000000000 h, and-false (leb 1 n)) (go (sound a) (is-placed (a .state .place)))
-  where
-    go : (b c : Bool) → is-accepted (cond (not b) (Refused 0) (cond (not c) (Refused 3) (Refused 4))) ≡ false
-    go true true = refl
-    go true false = refl
-    go false c = refl
-
-pub afford-is-largest : AffordIsLargest
-unfolding afford-of
-afford-is-largest a k = record { passes = largest-passes (λ n. accepts a (Use k n)) 1000000000; none-larger = λ m h. go m h (leb m 1000000000) refl }
-  where
-    go : (m : ℕ) → largest (λ n. accepts a (Use k n)) 1000000000 < m → (b : Bool) → leb m 1000000000 ≡ b → accepts a (Use k m) ≡ false
-    go m h true e = largest-last (λ n. accepts a (Use k n)) 1000000000 m h (leb-true m 1000000000 e)
-    go m h false e = refused-many a k m (leb-false m 1000000000 e)
-
 same : (b : Bool) (a : Account) → cond b a a ≡ a
 same true a = refl
 same false a = refl
 
-pub afford-keeps : AffordChangesNothing
+pub afford-keeps : (a : Account) (k : Kind) → step a (Afford k) ≡ a
 unfolding step after
 afford-keeps a k = same (accepts a (Afford k)) a
 

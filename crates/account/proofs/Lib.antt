@@ -2,4 +2,4 @@ pub mod Parts
 pub mod Returns
 pub mod Kept
 pub mod Affords
-pub mod Opens
+pub mod Claimed

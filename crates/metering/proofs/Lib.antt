@@ -3,3 +3,4 @@ pub mod Bounds
 pub mod Soundness
 pub mod Billing
 pub mod Verdicts
+pub mod Claimed

@@ -14,8 +14,7 @@ use Rattle.tariff.proofs.Plans.{Ranged, plan-ranged, opens-tells}
 use Rattle.presence.specs.Log.{lifetime-most}
 use Rattle.metering.specs.declared.State.{State}
 use Rattle.metering.specs.Sound.{allowance-fits, warning-fits, figures-sound, charges-sound}
-use Rattle.metering.specs.Claims.{UsesAddUp}
-use Rattle.metering.proofs.Adding.{Worked, spent-adds}
+use Rattle.metering.proofs.Adding.{Worked}
 
 -- the single figures
 pub record Figures (a : State) : Type 0 where
@@ -117,7 +116,3 @@ billed-held a f = omega (arith, plan-of-state a f, f .billed-ok, f .lifetime-ok)
 
 pub basis-held : (a : State) → Figures a → BasisFits (a .basis)
 basis-held a f = omega (arith, f .basis-ok, f .surcharged-ok, f .lifetime-ok)
-
--- uses add up where the charges are as worked out
-pub uses-add-up : UsesAddUp
-uses-add-up a u c v d h = spent-adds a u c v d (charges-tell a h .worked)

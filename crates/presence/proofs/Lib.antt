@@ -4,3 +4,4 @@ pub mod Shift
 pub mod Logs
 pub mod Ceiling
 pub mod Totals
+pub mod Claimed

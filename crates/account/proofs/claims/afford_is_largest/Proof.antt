@@ -1,5 +1,5 @@
 -- `account::claims::afford_is_largest` meets its contract. Assumes nothing.
-use Rattle.account.proofs.Affords.{afford-is-largest}
+use Rattle.account.proofs.Claimed.{afford-is-largest}
 use Rattle.account.proofs.claims.afford_is_largest.Statement.{statement}
 use Rattle.account.proofs.claims.afford_is_largest.Tie as tie
 

@@ -1,5 +1,5 @@
 -- `account::claims::open_tells_sound` meets its contract. Assumes nothing.
-use Rattle.account.proofs.Opens.{open-tells-sound}
+use Rattle.account.proofs.Claimed.{open-tells-sound}
 use Rattle.account.proofs.claims.open_tells_sound.Statement.{statement}
 use Rattle.account.proofs.claims.open_tells_sound.Tie as tie
 

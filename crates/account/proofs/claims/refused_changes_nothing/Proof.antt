@@ -1,5 +1,5 @@
 -- `account::claims::refused_changes_nothing` meets its contract. Assumes nothing.
-use Rattle.account.proofs.Opens.{refused-changes-nothing}
+use Rattle.account.proofs.Claimed.{refused-changes-nothing}
 use Rattle.account.proofs.claims.refused_changes_nothing.Statement.{statement}
 use Rattle.account.proofs.claims.refused_changes_nothing.Tie as tie
 

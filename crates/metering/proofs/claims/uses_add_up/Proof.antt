@@ -1,5 +1,5 @@
 -- `metering::claims::uses_add_up` meets its contract. Assumes nothing.
-use Rattle.metering.proofs.Soundness.{uses-add-up}
+use Rattle.metering.proofs.Claimed.{uses-add-up}
 use Rattle.metering.proofs.claims.uses_add_up.Statement.{statement}
 use Rattle.metering.proofs.claims.uses_add_up.Tie as tie
 

@@ -1,5 +1,5 @@
 -- `presence::claims::log_keeps_days` meets its contract. Assumes nothing.
-use Rattle.presence.proofs.Numbers.{log-keeps-days}
+use Rattle.presence.proofs.Claimed.{log-keeps-days}
 use Rattle.presence.proofs.claims.log_keeps_days.Statement.{statement}
 use Rattle.presence.proofs.claims.log_keeps_days.Tie as tie
 
