@@ -113,10 +113,9 @@ fn functions(krate: &str, texts: &BTreeMap<String, String>) -> Vec<Function> {
 }
 
 fn fn_name(code: &str) -> Option<&str> {
-    let rest = code
-        .strip_prefix("pub ")
-        .unwrap_or(code)
-        .strip_prefix("fn ")?;
+    let rest = code.strip_prefix("pub ").unwrap_or(code);
+    let rest = rest.strip_prefix("extern \"C\" ").unwrap_or(rest);
+    let rest = rest.strip_prefix("fn ")?;
     rest.split(['(', '<']).next()
 }
 
