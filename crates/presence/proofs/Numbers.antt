@@ -5,11 +5,11 @@ use mathlib.Core.Bool.{Bool, true, false, cond, _&&_}
 use mathlib.Core.List.{List, [], _∷_, _++_}
 use native.Mathlib.Omega.{arith}
 use lib.Dec.{eqb, leb, lit≤}
-use borrow.Author.Tests.{le-leb, lt-leb, leb-true}
+use borrow.Author.Tests.{leb-true}
 use lib.ListN.{getD, drop, take, length, length-drop, replicate}
 use lib.Seq.{getD-take, getD-drop, drop-drop, take-nil, take-add, take-all, length-take-le}
 use Rattle.tariff.specs.Units.{each}
-use Rattle.tariff.proofs.Tests.{and-left, and-right}
+use Rattle.tariff.proofs.Tests.{and-left, and-right, and-true, and-assoc}
 use Rattle.presence.specs.declared.Day.{Day}
 use Rattle.presence.specs.Day.{empty-day, joined}
 use Rattle.presence.specs.Log.{numbers-of, day-from, days-first, days-of, logged-with, marks-proper, numbers-all}
@@ -108,11 +108,7 @@ pub logged-size : (d : Day) (xs : List ℕ) → length xs ≡ 1599 → length (l
 unfolding logged-with numbers-of
 logged-size d xs h = length-take-le 1599 (numbers-of d ++ xs) (rw h (lit≤ tt))
 
--- proper marks, one day at a time
-pub marks-all : (i : ℕ) (xs : List ℕ) → 123 ≤ i → marks-proper (123 - i) (drop (13 * i) xs) ≡ true
-unfolding marks-proper
-marks-all i xs h = let e : 123 - i ≡ 0 = omega arith in rw e refl
-
+-- proper marks, one day at a time, with what was found of the days before
 marks-at : (i : ℕ) (xs : List ℕ) → i < 123 → marks-proper (123 - i) (drop (13 * i) xs) ≡ leb (getD xs (13 * i) 0) 7 && marks-proper (123 - (i + 1)) (drop (13 * (i + 1)) xs)
 unfolding marks-proper
 marks-at i xs h =
@@ -120,12 +116,13 @@ marks-at i xs h =
     let f : 13 * i + 13 ≡ 13 * (i + 1) = omega arith in
     rw (e, at-place i 0 (13 * i) xs (omega arith), drop-drop 13 (13 * i) xs, f) refl
 
-module _ (i : ℕ) (xs : List ℕ) (h : i < 123) where
-  pub marks-bad : 7 < getD xs (13 * i) 0 → marks-proper (123 - i) (drop (13 * i) xs) ≡ false
-  marks-bad l = marks-at i xs h ∙ rw (lt-leb _ _ l) refl
+module _ (fit : Bool) (i : ℕ) (xs : List ℕ) where
+  pub marks-next : i < 123 → (fit && leb (getD xs (13 * i) 0) 7) && marks-proper (123 - (i + 1)) (drop (13 * (i + 1)) xs) ≡ fit && marks-proper (123 - i) (drop (13 * i) xs)
+  marks-next h = and-assoc fit _ _ ∙ ap (λ (t : Bool). fit && t) (sym (marks-at i xs h))
 
-  pub marks-good : getD xs (13 * i) 0 ≤ 7 → marks-proper (123 - (i + 1)) (drop (13 * (i + 1)) xs) ≡ marks-proper (123 - i) (drop (13 * i) xs)
-  marks-good l = sym (marks-at i xs h ∙ rw (le-leb _ _ l) refl)
+  pub marks-end : 123 ≤ i → fit && marks-proper (123 - i) (drop (13 * i) xs) ≡ fit
+  unfolding marks-proper
+  marks-end h = let e : 123 - i ≡ 0 = omega arith in rw (e, and-true fit) refl
 
 marks-take : (n m : ℕ) (xs : List ℕ) → 13 * n ≤ m → marks-proper n (take m xs) ≡ marks-proper n xs
 unfolding marks-proper

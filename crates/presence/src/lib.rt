@@ -577,14 +577,13 @@ fn rest_blank(log: &[u64; 1599], n: usize) -> bool
 fn marks_fit(log: &[u64; 1599]) -> bool
     ensures { λ r. ⌜ r ≡ marks-proper 123 (now (log .entry)) ⌝ }
 {
+    let mut fit = true;
     let mut i: usize = 0;
     while i < 123 {
-        if log[13 * i] > 7 {
-            return false;
-        }
+        fit = fit & (log[13 * i] <= 7);
         i += 1;
     }
-    true
+    fit
 }
 
 // Are the units of today and of the n logged days within the lifetime units, the other places blank, and all marks proper?

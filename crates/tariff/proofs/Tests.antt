@@ -45,6 +45,10 @@ pub and-false : (s : Bool) → s && false ≡ false
 and-false true = refl
 and-false false = refl
 
+pub and-true : (s : Bool) → s && true ≡ s
+and-true true = refl
+and-true false = refl
+
 pub and-assoc : (s t u : Bool) → (s && t) && u ≡ s && (t && u)
 and-assoc true t u = refl
 and-assoc false t u = refl

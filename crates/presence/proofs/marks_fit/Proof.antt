@@ -1,34 +1,31 @@
 -- `presence::marks_fit` meets its contract. Assumes nothing.
 use Prim.Native.Nat.{_≤_, _-_, _*_}
+use mathlib.Core.Bool.{_&&_}
 use mathlib.Core.Path.{_≡_, refl, sym, _∙_}
 use native.Mathlib.Omega.{arith}
 use lib.ListN.{drop}
 use Rattle.presence.specs.Log.{marks-proper}
-use Rattle.presence.proofs.Numbers.{marks-all, marks-bad, marks-good}
+use Rattle.presence.proofs.Numbers.{marks-end, marks-next}
 use Rattle.presence.proofs.marks_fit.Statement.{statement}
 use Rattle.presence.proofs.marks_fit.Tie as tie
 
 abbrev Inv-loop : tie.InvT-loop
-Inv-loop log i₀ i = (i ≤ 123) × (marks-proper (123 - i) (drop (13 * i) log) ≡ marks-proper 123 log)
+Inv-loop log fit₀ i₀ fit i = (i ≤ 123) × (fit && marks-proper (123 - i) (drop (13 * i) log) ≡ marks-proper 123 log)
 
 abbrev μ-loop : tie.MeasureT-loop
-μ-loop log i₀ i = 123 - i
+μ-loop log fit₀ i₀ fit i = 123 - i
 
 loop-holds : tie.Need-loop-holds Inv-loop μ-loop
 loop-holds c = (omega arith, refl)
 
-mul-if1 : tie.Need-mul-if1 Inv-loop μ-loop
-mul-if1 c = omega arith
+mul-fit : tie.Need-mul-fit Inv-loop μ-loop
+mul-fit c = omega arith
 
-mul-if1-2 : tie.Need-mul-if1-2 Inv-loop μ-loop
-mul-if1-2 c = omega arith
+mul-fit-2 : tie.Need-mul-fit-2 Inv-loop μ-loop
+mul-fit-2 c = omega arith
 
-element-copy-out-if1 : tie.Need-element-copy-out-if1 Inv-loop μ-loop
-element-copy-out-if1 c = omega arith
-
-returns : tie.Need-returns Inv-loop μ-loop
-returns c = let l = c .before .before .before .loop in
-    sym (marks-bad (l .i) (c .before .before .before .before .args .log .now) (omega arith) (omega arith)) ∙ l .inv .1
+element-copy-out-fit : tie.Need-element-copy-out-fit Inv-loop μ-loop
+element-copy-out-fit c = omega arith
 
 add-i : tie.Need-add-i Inv-loop μ-loop
 add-i c = omega arith
@@ -37,12 +34,12 @@ loop-less : tie.Need-loop-less Inv-loop μ-loop
 loop-less c = omega arith
 
 loop-again : tie.Need-loop-again Inv-loop μ-loop
-loop-again c = let l = c .before .before .before .loop in
-    (omega arith, marks-good (l .i) (c .before .before .before .before .args .log .now) (omega arith) (omega arith) ∙ l .inv .1)
+loop-again c = let l = c .before .before .loop in
+    (omega arith, marks-next (l .fit) (l .i) (c .before .before .before .args .log .now) (omega arith) ∙ l .inv .1)
 
-returns-2 : tie.Need-returns-2 Inv-loop μ-loop
-returns-2 c = let l = c .before .loop in
-    sym (marks-all (l .i) (c .before .before .args .log .now) (omega arith)) ∙ l .inv .1
+returns : tie.Need-returns Inv-loop μ-loop
+returns c = let l = c .before .loop in
+    sym (marks-end (l .fit) (l .i) (c .before .before .args .log .now) (omega arith)) ∙ l .inv .1
 
 pub marks-fit-spec : {M : Type 1} → statement M
 marks-fit-spec =
@@ -51,11 +48,10 @@ marks-fit-spec =
     Inv-loop
     μ-loop
     loop-holds
-    mul-if1
-    mul-if1-2
-    element-copy-out-if1
-    returns
+    mul-fit
+    mul-fit-2
+    element-copy-out-fit
     add-i
     loop-less
     loop-again
-    returns-2)
+    returns)
