@@ -46,8 +46,8 @@ pub fn copy(from: &Path, to: &Path) -> io::Result<()> {
     Ok(())
 }
 
-/// A copy of what the checker needs of the repository, with what is proved already.
-pub fn copy_repository(root: &Path, to: &Path) -> io::Result<()> {
+/// A copy of the sources that the checker needs of the repository.
+pub fn copy_sources(root: &Path, to: &Path) -> io::Result<()> {
     fs::create_dir_all(to)?;
     fs::copy(root.join("crates.txt"), to.join("crates.txt"))?;
     for dir in entries(&root.join("crates"))? {
@@ -63,13 +63,43 @@ pub fn copy_repository(root: &Path, to: &Path) -> io::Result<()> {
             }
         }
     }
-    for part in ["rlib", "stamp"] {
-        copy(
-            &root.join("target").join(part),
-            &to.join("target").join(part),
-        )?;
+    Ok(())
+}
+
+/// Is the crate proved? `rt` writes its stamp when it is, after its library.
+pub fn is_proved(root: &Path, name: &str) -> bool {
+    root.join("target/stamp").join(name).is_file()
+}
+
+/// Copies the libraries of all crates that are proved by now, as far as they are not there yet.
+pub fn copy_proved(root: &Path, to: &Path) -> io::Result<()> {
+    fs::create_dir_all(to.join("target/stamp"))?;
+    for stamp in entries(&root.join("target/stamp"))? {
+        let name = name_of(&stamp);
+        let library = format!("target/rlib/{name}.rlib");
+        if is_proved(to, &name) || !root.join(&library).is_dir() {
+            continue;
+        }
+        copy(&root.join(&library), &to.join(&library))?;
+        fs::copy(&stamp, to.join("target/stamp").join(&name))?;
     }
     Ok(())
+}
+
+/// Makes a crate's incremental folder anew, with the modules that were checked when the crate was proved, so that a check
+/// over it has to look only at what an edit changed. Where a library is not laid out as expected the folder is empty,
+/// and the check is a whole one.
+pub fn renew_incremental(dir: &Path, name: &str) -> io::Result<()> {
+    let folder = dir.join("target/inc").join(name);
+    let _ = fs::remove_dir_all(&folder);
+    let library = dir.join(format!("target/rlib/{name}.rlib"));
+    let format = fs::read_to_string(library.join("format"))?;
+    let build = format.lines().find_map(|l| l.strip_prefix("rattle-build "));
+    let checked = library.join("toolchain/checked");
+    match build {
+        Some(build) if checked.is_dir() => copy(&checked, &folder.join(build.replace('/', "_"))),
+        _ => Ok(()),
+    }
 }
 
 /// The bytes of all files below a folder; 0 where there is none.

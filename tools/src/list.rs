@@ -1,6 +1,7 @@
 //! The edits of the tree, by crate.
 use crate::edit::{self, Replacement};
 use crate::folder;
+use std::collections::BTreeMap;
 use std::fs;
 use std::path::Path;
 
@@ -20,8 +21,12 @@ pub struct Crate {
 pub fn crates(root: &Path, wanted: &[String]) -> Result<Vec<Crate>, String> {
     let dirs = folder::entries(&root.join("crates")).map_err(|e| format!("crates/: {e}"))?;
     let mut found = Vec::new();
+    let used = used_by_crate(root)?;
     for dir in dirs.iter().filter(|d| d.join("edits").is_dir()) {
-        found.push(crate_at(dir, folder::name_of(dir))?);
+        let name = folder::name_of(dir);
+        let below = used.get(&name).map_or(&[][..], |names| names);
+        let below = below.iter().map(|n| size(&root.join("crates").join(n)));
+        found.push(crate_at(dir, name, below.sum())?);
     }
     for word in wanted {
         let (krate, edit) = word
@@ -47,7 +52,25 @@ pub fn crates(root: &Path, wanted: &[String]) -> Result<Vec<Crate>, String> {
     Ok(found)
 }
 
-fn crate_at(dir: &Path, name: String) -> Result<Crate, String> {
+/// The crates that each crate uses, from crates.txt.
+fn used_by_crate(root: &Path) -> Result<BTreeMap<String, Vec<String>>, String> {
+    let text =
+        fs::read_to_string(root.join("crates.txt")).map_err(|e| format!("crates.txt: {e}"))?;
+    let lines = text.lines().map(|l| l.split('#').next().unwrap_or(""));
+    let entries = lines.filter_map(|l| l.split_once(':'));
+    let words = |used: &str| used.split_whitespace().map(str::to_string).collect();
+    Ok(entries
+        .map(|(name, used)| (name.trim().to_string(), words(used)))
+        .collect())
+}
+
+/// The bytes of a crate's files that are checked.
+fn size(dir: &Path) -> u64 {
+    let parts = ["src", "specs", "proofs"].iter();
+    parts.map(|part| folder::size(&dir.join(part))).sum()
+}
+
+fn crate_at(dir: &Path, name: String, below: u64) -> Result<Crate, String> {
     let mut edits = Vec::new();
     for path in
         folder::entries(&dir.join("edits")).map_err(|e| format!("crates/{name}/edits: {e}"))?
@@ -64,12 +87,8 @@ fn crate_at(dir: &Path, name: String) -> Result<Crate, String> {
             replacements,
         });
     }
-    let bytes: u64 = ["src", "specs", "proofs"]
-        .iter()
-        .map(|part| folder::size(&dir.join(part)))
-        .sum();
-    // The first check of a crate costs about as much as six edits.
-    let weight = (edits.len() as u64 + 6) * bytes;
+    // A check reads what the crate uses, and checks some of its own.
+    let weight = edits.len() as u64 * (size(dir) + below / 2);
     Ok(Crate {
         name,
         edits,

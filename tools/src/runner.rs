@@ -1,21 +1,25 @@
 //! Tries the edits of crates, which are proved as they are: each worker has a copy of the repository, in which a
-//! crate is checked with its edits over one incremental folder, several at a time where they can be told apart,
-//! and last as it is.
+//! crate is checked with its edits, several at a time where they can be told apart, and last as it is. Each check is
+//! over an incremental folder with what was checked when the crate was proved, and nothing else.
 use crate::batch::{self, Batch};
 use crate::edit;
 use crate::folder;
 use crate::list::{Crate, Edit};
 use crate::verdict::{judge, own_refusal, Verdict};
 use std::fs;
+use std::io;
 use std::path::{Path, PathBuf};
 use std::process::{Command, Stdio};
 use std::sync::Mutex;
-use std::time::Instant;
+use std::thread;
+use std::time::{Duration, Instant};
 
 pub struct Run {
     pub root: PathBuf,
     pub logs: PathBuf,
     pub workers: usize,
+    /// Where the crates are still being proved beside this run: the file that is there once that has ended.
+    pub proofs_end: Option<PathBuf>,
 }
 
 /// What was tried so far.
@@ -34,8 +38,7 @@ pub struct Outcome {
 
 pub fn run(settings: &Run, crates: Vec<Crate>) -> Result<Outcome, String> {
     let total = crates.iter().map(|c| c.edits.len()).sum();
-    let mut queue = crates;
-    queue.reverse();
+    let queue = crates;
     let workers = settings.workers.clamp(1, queue.len().max(1));
     let board = Mutex::new(Board {
         queue,
@@ -45,10 +48,10 @@ pub fn run(settings: &Run, crates: Vec<Crate>) -> Result<Outcome, String> {
     });
     let base = settings.root.join("target/edits");
     let _ = fs::remove_dir_all(&base);
-    std::thread::scope(|scope| {
+    thread::scope(|scope| {
         for number in 0..workers {
             let (board, dir) = (&board, base.join(number.to_string()));
-            scope.spawn(move || work(settings, board, &dir));
+            scope.spawn(move || work(settings, board, &dir, number));
         }
     });
     let _ = fs::remove_dir_all(&base);
@@ -59,21 +62,65 @@ pub fn run(settings: &Run, crates: Vec<Crate>) -> Result<Outcome, String> {
     })
 }
 
-fn work(settings: &Run, board: &Mutex<Board>, dir: &Path) {
-    if let Err(e) = folder::copy_repository(&settings.root, dir) {
-        note(
-            board,
-            format!("cannot copy the repository to {}: {e}", dir.display()),
-        );
-        return;
+/// What a worker does next.
+enum Next {
+    Try(Crate),
+    Wait,
+    Done,
+}
+
+/// The heaviest crate that is proved. While crates are still being proved only the first worker tries edits. Where the
+/// proofs have ended without a crate that is left, that is told.
+fn next(settings: &Run, board: &Mutex<Board>, worker: usize) -> Next {
+    let ended = settings.proofs_end.as_ref().is_none_or(|f| f.is_file());
+    if worker > 0 && !ended {
+        return Next::Wait;
     }
+    let mut b = board.lock().expect("no worker panics");
+    let proved = |c: &Crate| folder::is_proved(&settings.root, &c.name);
+    match b.queue.iter().position(proved) {
+        Some(at) => Next::Try(b.queue.remove(at)),
+        None if b.queue.is_empty() => Next::Done,
+        None if ended => {
+            let left: Vec<String> = b.queue.drain(..).map(|c| c.name).collect();
+            let line = format!("not proved as they are: {}", left.join(", "));
+            println!("edits: {line}");
+            b.wrong.push(line);
+            Next::Done
+        }
+        None => Next::Wait,
+    }
+}
+
+fn work(settings: &Run, board: &Mutex<Board>, dir: &Path, worker: usize) {
     loop {
-        let next = board.lock().expect("no worker panics").queue.pop();
-        match next {
-            Some(c) => try_crate(settings, board, dir, &c),
-            None => return,
+        let c = match next(settings, board, worker) {
+            Next::Try(c) => c,
+            Next::Wait => {
+                thread::sleep(Duration::from_millis(300));
+                continue;
+            }
+            Next::Done => return,
+        };
+        match prepare(&settings.root, dir) {
+            Ok(()) => try_crate(settings, board, dir, &c),
+            Err(e) => {
+                let copy = dir.display();
+                note(
+                    board,
+                    format!("{}: cannot be copied to {copy}: {e}", c.name),
+                );
+            }
         }
     }
+}
+
+/// A copy of the repository, with what is proved by now.
+fn prepare(root: &Path, dir: &Path) -> io::Result<()> {
+    if !dir.is_dir() {
+        folder::copy_sources(root, dir)?;
+    }
+    folder::copy_proved(root, dir)
 }
 
 fn note(board: &Mutex<Board>, line: String) {
@@ -93,7 +140,7 @@ fn try_crate(settings: &Run, board: &Mutex<Board>, dir: &Path, c: &Crate) {
     as_it_is(board, dir, c, &log("_after"));
 }
 
-/// The crate without an edit must be proved, over the folder in which its edits were tried.
+/// The crate without an edit must be proved, over the same folder as its edits.
 fn as_it_is(board: &Mutex<Board>, dir: &Path, c: &Crate, log: &Path) {
     let began = Instant::now();
     let verdict = check(dir, &c.name, log);
@@ -203,6 +250,8 @@ fn check(dir: &Path, name: &str, log: &Path) -> Verdict {
 
 /// What `rt dev` says of the crate, with its exit status; names of files are those of the crate.
 fn ask(dir: &Path, name: &str) -> Result<(Option<i32>, String), String> {
+    folder::renew_incremental(dir, name)
+        .map_err(|e| format!("the incremental folder cannot be made: {e}"))?;
     let mut command = Command::new("rt");
     command
         .args(["dev", name])

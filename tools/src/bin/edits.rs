@@ -1,16 +1,18 @@
-//! Tries the wrong programs in crates/*/edits: the checker must refuse each. `edits [--jobs N] [--logs DIR] [CRATE | CRATE/NAME]...`,
-//! from the top of the repository. The last line is `edits: N tried, 0 not refused` if all is well.
+//! Tries the wrong programs in crates/*/edits: the checker must refuse each. `edits [--jobs N] [--logs DIR] [--beside FILE]
+//! [CRATE | CRATE/NAME]...`, from the top of the repository. With --beside the crates are being proved meanwhile by
+//! another command, after which FILE is there: each crate is taken up once it is proved. The last line is `edits: N tried, 0 not refused` if all is well.
 use std::io::{BufRead, BufReader};
 use std::path::PathBuf;
 use std::process::{Command, ExitCode, Stdio};
 use tools::list;
 use tools::runner::{self, Run};
 
-const USAGE: &str = "usage: edits [--jobs N] [--logs DIR] [CRATE | CRATE/NAME]...";
+const USAGE: &str = "usage: edits [--jobs N] [--logs DIR] [--beside FILE] [CRATE | CRATE/NAME]...";
 
 struct Arguments {
     jobs: usize,
     logs: PathBuf,
+    beside: Option<PathBuf>,
     crates: Vec<String>,
 }
 
@@ -32,6 +34,7 @@ fn arguments() -> Result<Arguments, String> {
     let mut found = Arguments {
         jobs,
         logs: PathBuf::from("logs/edits"),
+        beside: None,
         crates: Vec::new(),
     };
     let mut words = std::env::args().skip(1);
@@ -42,6 +45,7 @@ fn arguments() -> Result<Arguments, String> {
                 found.jobs = n.ok_or("--jobs takes a number, 1 or more")?;
             }
             "--logs" => found.logs = words.next().ok_or("--logs takes a folder")?.into(),
+            "--beside" => found.beside = Some(words.next().ok_or("--beside takes a file")?.into()),
             _ if word.starts_with('-') => return Err(USAGE.into()),
             _ => found.crates.push(word),
         }
@@ -63,11 +67,14 @@ fn try_all(a: Arguments) -> Result<bool, String> {
         a.jobs,
         a.logs.display()
     );
-    prove(&names)?;
+    if a.beside.is_none() {
+        prove(&names)?;
+    }
     let settings = Run {
         root,
         logs: a.logs,
         workers: a.jobs,
+        proofs_end: a.beside,
     };
     let outcome = runner::run(&settings, crates)?;
     for line in &outcome.wrong {
