@@ -87,14 +87,14 @@ fn is_rule(line: &str) -> bool {
     line.starts_with('|') && line.contains('-') && line.chars().all(|c| "|-: ".contains(c))
 }
 
+/// The cells of a table's row.
+pub fn cells(row: &str) -> Option<Vec<&str>> {
+    let inner = row.trim().strip_prefix('|')?.strip_suffix('|')?;
+    Some(inner.split('|').map(str::trim).collect())
+}
+
 fn row(line: usize, text: &str) -> Option<Row> {
-    let cells: Vec<&str> = text
-        .trim()
-        .strip_prefix('|')?
-        .strip_suffix('|')?
-        .split('|')
-        .map(str::trim)
-        .collect();
+    let cells = cells(text)?;
     let [sentence, place, function] = cells[..] else {
         return None;
     };

@@ -110,3 +110,26 @@ pub fn size(dir: &Path) -> u64 {
         .map(|f| f.metadata().map_or(0, |m| m.len()))
         .sum()
 }
+
+#[cfg(test)]
+mod tests {
+    use super::*;
+
+    #[test]
+    fn a_check_begins_with_what_was_checked_and_nothing_else() {
+        let dir = std::env::temp_dir().join(format!("edits-folder-{}", std::process::id()));
+        let library = dir.join("target/rlib/a.rlib");
+        fs::create_dir_all(library.join("toolchain/checked")).unwrap();
+        fs::write(library.join("format"), "rattle rlib\nrattle-build x/y\n").unwrap();
+        fs::write(library.join("toolchain/checked/m"), "module").unwrap();
+        let folder = dir.join("target/inc/a/x_y");
+        fs::create_dir_all(&folder).unwrap();
+        fs::write(folder.join("m"), "of an edit").unwrap();
+        fs::write(folder.join("n"), "of an edit").unwrap();
+        renew_incremental(&dir, "a").unwrap();
+        let held = fs::read_to_string(folder.join("m"));
+        let names = entries(&folder).unwrap().len();
+        fs::remove_dir_all(&dir).unwrap();
+        assert_eq!((held.unwrap().as_str(), names), ("module", 1));
+    }
+}

@@ -1,6 +1,6 @@
 //! Holds docs/EDITS.md to the tree: each edit is named in a row of its tables, each name there is an edit, each row has
 //! two or more, and the counts are right.
-use crate::claims::Outcome;
+use crate::claims::{cells, Outcome};
 use crate::folder;
 use std::collections::BTreeSet;
 use std::fs;
@@ -89,13 +89,7 @@ pub fn faults(text: &str, tree: &Tree) -> Vec<String> {
 
 /// The promise of a row and its edits, each with whether it is marked as one that `rt ci` tries; none for a table's head.
 fn row_names(row: &str) -> Option<(&str, Vec<(String, bool)>)> {
-    let cells: Vec<&str> = row
-        .trim()
-        .strip_prefix('|')?
-        .strip_suffix('|')?
-        .split('|')
-        .map(str::trim)
-        .collect();
+    let cells = cells(row)?;
     let [promise, edits] = cells[..] else {
         return None;
     };

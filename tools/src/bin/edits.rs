@@ -1,6 +1,7 @@
-//! Tries the wrong programs in crates/*/edits: the checker must refuse each. `edits [--jobs N] [--logs DIR] [--beside FILE]
-//! [CRATE | CRATE/NAME]...`, from the top of the repository. With --beside the crates are being proved meanwhile by
-//! another command, after which FILE is there: each crate is taken up once it is proved. The last line is `edits: N tried, 0 not refused` if all is well.
+//! Tries the wrong programs in crates/*/edits: the checker must refuse each.
+//! `edits [--jobs N] [--logs DIR] [--beside FILE] [CRATE | CRATE/NAME]...`, from the top of the repository. With --beside
+//! the crates are being proved meanwhile by another command, after which FILE is there: each crate is taken up once it
+//! is proved. The last line is `edits: N tried, 0 not refused` if all is well.
 use std::io::{BufRead, BufReader};
 use std::path::PathBuf;
 use std::process::{Command, ExitCode, Stdio};
