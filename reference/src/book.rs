@@ -33,10 +33,11 @@ pub enum Stage {
     Surcharged,
 }
 
-/// A finished day: whether it is a zone day, zone and other units by service.
+/// A finished day: 1 for a zone day, -1 for a home day, 0 for an off day; and
+/// zone and other units by service.
 #[derive(Clone, Copy, Debug)]
 struct Finished {
-    zone_day: bool,
+    zone_less_home: i32,
     zone: [u64; 3],
     other: [u64; 3],
 }
@@ -300,24 +301,26 @@ impl Book {
     fn next_stage(&self, service: usize) -> Stage {
         let logged = self.days.len();
         match self.stages[service] {
-            Stage::Clear if logged >= 123 && self.prevalent(123, 62, service) => {
+            Stage::Clear if logged >= 123 && self.prevalent(123, service) => {
                 Stage::Warned { at: logged }
             }
             Stage::Warned { at } if logged < at + 15 => Stage::Warned { at },
-            Stage::Warned { .. } if self.prevalent(15, 8, service) => Stage::Surcharged,
-            Stage::Surcharged if self.prevalent(123, 62, service) => Stage::Surcharged,
+            Stage::Warned { .. } if self.prevalent(15, service) => Stage::Surcharged,
+            Stage::Surcharged if self.prevalent(123, service) => Stage::Surcharged,
             _ => Stage::Clear,
         }
     }
 
-    /// At least `least` zone days among the newest w, and more zone units
-    /// than others.
-    fn prevalent(&self, w: usize, least: usize, service: usize) -> bool {
+    /// More zone days than home days among the newest w, off days being
+    /// neither, and more zone units than others. Twice the zone days exceed
+    /// zone and home days together exactly if there are more of them than of
+    /// home days.
+    fn prevalent(&self, w: usize, service: usize) -> bool {
         let window = &self.days[self.days.len().saturating_sub(w)..];
-        let zone_days = window.iter().filter(|day| day.zone_day).count();
+        let zone_less_home: i32 = window.iter().map(|day| day.zone_less_home).sum();
         let zone: u64 = window.iter().map(|day| day.zone[service]).sum();
         let other: u64 = window.iter().map(|day| day.other[service]).sum();
-        zone_days >= least && zone > other
+        zone_less_home > 0 && zone > other
     }
 }
 
@@ -325,8 +328,13 @@ impl Book {
 fn finished(items: &[Item]) -> Finished {
     let marking = |item: &&Item| matches!(item.call, Call::Register(_) | Call::Use(_, _));
     let mut marks = items.iter().filter(marking).map(|item| item.place);
+    let zone_less_home = match marks.next() {
+        None => 0,
+        Some(first) if first == Some(Place::Zone) && marks.all(|place| place == first) => 1,
+        Some(_) => -1,
+    };
     let mut day = Finished {
-        zone_day: marks.clone().count() > 0 && marks.all(|place| place == Some(Place::Zone)),
+        zone_less_home,
         zone: [0; 3],
         other: [0; 3],
     };

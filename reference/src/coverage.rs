@@ -3,7 +3,7 @@
 use crate::caps::caps_on;
 use crate::meter::{Account, Answer};
 use crate::plan::{BUNDLE, UNLIMITED};
-use crate::services::{window, Log, State, LOG_DAYS, SHORT_DAYS};
+use crate::services::{window, DayCount, Log, State, Window, LOG_DAYS, SHORT_DAYS};
 use crate::terms::{Call, Kind, Place, Service};
 use std::collections::{BTreeMap, BTreeSet};
 
@@ -28,9 +28,20 @@ const SPARED: [&str; 3] = [
     "SMS warned, then clear",
 ];
 
+const EDGES_OF_123: [&str; 3] = [
+    "61 zone days of 123, none off",
+    "62 zone days of 123, none off",
+    "zone days half of those on, of 123",
+];
+const EDGES_OF_15: [&str; 3] = [
+    "7 zone days of 15, none off",
+    "8 zone days of 15, none off",
+    "zone days half of those on, of 15",
+];
+
 /// Every event that a set of random trips must reach. Refusal 0 cannot arise
 /// from a list, and 1 and 2 are those of files.
-pub const EVENTS: [&str; 71] = [
+pub const EVENTS: [&str; 80] = [
     "refusal 3",
     "refusal 4",
     "refusal 5",
@@ -70,10 +81,19 @@ pub const EVENTS: [&str; 71] = [
     "data warned, then clear",
     "calls warned, then clear",
     "SMS warned, then clear",
-    "61 zone days of 123",
-    "62 zone days of 123",
-    "7 zone days of 15",
-    "8 zone days of 15",
+    "61 zone days of 123, none off",
+    "62 zone days of 123, none off",
+    "7 zone days of 15, none off",
+    "8 zone days of 15, none off",
+    "warned with off days",
+    "warned with under 62 zone days",
+    "cleared as a home day joined",
+    "surcharged with off days in the 15",
+    "warned, then clear with off days in the 15",
+    "zone days half of those on, of 123",
+    "zone days half of those on, of 15",
+    "123 off days",
+    "15 off days",
     "use while surcharged",
     "use while surcharged and past L",
     "notice",
@@ -322,15 +342,61 @@ impl TripEvents {
             (State::Surcharged, State::Clear) => self.hit(CLEARED[s], true),
             _ => {}
         }
-        // At a decision where the units prevail, the days alone decide.
-        let short = before.states[s] == State::Warned(14);
-        let long = !matches!(before.states[s], State::Warned(_)) && now.log.len() == LOG_DAYS;
-        let days = if short { SHORT_DAYS } else { LOG_DAYS };
-        let sums = window(&now.log, days, service);
-        let decides = |days: usize| sums.zone_units > sums.other_units && sums.zone_days == days;
-        self.hit("61 zone days of 123", long && decides(61));
-        self.hit("62 zone days of 123", long && decides(62));
-        self.hit("7 zone days of 15", short && decides(7));
-        self.hit("8 zone days of 15", short && decides(8));
+        match before.states[s] {
+            State::Warned(14) => {
+                let sums = window(&now.log, SHORT_DAYS, service);
+                self.decided_over_15(&sums, now.states[s]);
+            }
+            State::Warned(_) => {}
+            _ if now.log.len() == LOG_DAYS => {
+                let sums = window(&now.log, LOG_DAYS, service);
+                self.decided_over_123(&sums, before.states[s], now, s);
+            }
+            _ => {}
+        }
     }
+
+    /// The edges of a decision in which the units prevail, so that the days
+    /// alone decide: a full window without off days that has one zone day too
+    /// few, one that has just enough, and half of the days that are on.
+    fn edges(&mut self, sums: &Window, enough: usize, names: [&'static str; 3]) {
+        let units = sums.zone_units > sums.other_units;
+        let full = units && sums.off_days == 0;
+        self.hit(names[0], full && sums.zone_days + 1 == enough);
+        self.hit(names[1], full && sums.zone_days == enough);
+        self.hit(names[2], units && is_half(sums));
+    }
+
+    fn decided_over_15(&mut self, sums: &Window, next: State) {
+        self.edges(sums, 8, EDGES_OF_15);
+        let off = sums.off_days;
+        let surcharged = next == State::Surcharged;
+        self.hit("surcharged with off days in the 15", surcharged && off > 0);
+        let units = sums.zone_units > sums.other_units;
+        let clear = next == State::Clear && units && off > 0;
+        self.hit("warned, then clear with off days in the 15", clear);
+        self.hit("15 off days", off == SHORT_DAYS);
+    }
+
+    fn decided_over_123(&mut self, sums: &Window, last: State, now: &Account, s: usize) {
+        self.edges(sums, 62, EDGES_OF_123);
+        let off = sums.off_days;
+        let warned = last == State::Clear && now.states[s] != State::Clear;
+        self.hit("warned with off days", warned && off > 0);
+        self.hit(
+            "warned with under 62 zone days",
+            warned && sums.zone_days < 62,
+        );
+        // The days would still prevail if the newest one were off.
+        let cleared = last == State::Surcharged && now.states[s] == State::Clear;
+        let units = sums.zone_units > sums.other_units;
+        let joined = now.log[0].counts_as() == DayCount::Home && is_half(sums);
+        self.hit("cleared as a home day joined", cleared && units && joined);
+        self.hit("123 off days", off == LOG_DAYS);
+    }
+}
+
+/// As many zone days as home days, and some.
+fn is_half(sums: &Window) -> bool {
+    sums.zone_days > 0 && sums.zone_days == sums.home_days
 }

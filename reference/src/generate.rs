@@ -349,17 +349,29 @@ impl Maker {
     }
 
     /// Over 300 days in phases spent mostly in the zone, half or mostly out
-    /// of it, so that services get warned, surcharged and cleared.
+    /// of it, so that services get warned, surcharged and cleared. Where the
+    /// box rests, some, most or all days of a phase are off.
     fn long(&mut self) {
         let wavers = self.rng.chance(50);
+        let rests = self.rng.chance(50);
         let days = self.rng.between(300, 520);
         let (mut percent, mut left) = (95, self.rng.between(110, 180));
+        let mut off = if rests {
+            self.rng.pick(&[0, 30, 60, 97])
+        } else {
+            0
+        };
         let mut scales = (200, 200);
         for day in 0..days {
             if left == 0 {
                 percent = self.rng.pick(&[95, 60, 50, 45, 10, 2]);
                 left = self.rng.between(10, 140);
                 scales = self.rng.pick(&[(20, 200), (200, 200), (2000, 200), (1, 1)]);
+                off = if rests {
+                    self.rng.pick(&[0, 30, 60, 97, 100])
+                } else {
+                    0
+                };
             }
             left -= 1;
             if day % 20 == 0 {
@@ -368,18 +380,19 @@ impl Maker {
             let warned = |state: &State| matches!(state, State::Warned(_));
             let unsure = wavers && self.account.states.iter().any(warned);
             let zone = self.rng.chance(if unsure { 52 } else { percent });
-            self.long_day(zone, if zone { scales.0 } else { scales.1 });
+            if !self.rng.chance(off) {
+                self.long_day(zone, if zone { scales.0 } else { scales.1 });
+            }
             self.call(Call::NextDay);
         }
     }
 
-    /// One day of a long run, with uses of up to `scale` units; a day out of
-    /// the zone may be off.
+    /// One day of a long run that is not off, with uses of up to `scale`
+    /// units.
     fn long_day(&mut self, zone: bool, scale: u64) {
         let place = match (zone, self.rng.below(10)) {
             (true, _) => Place::Zone,
-            (false, 0) => return,
-            (false, 1..=2) => Place::Elsewhere,
+            (false, 0..=2) => Place::Elsewhere,
             (false, _) => Place::Home,
         };
         self.call(Call::Register(place));

@@ -16,10 +16,17 @@ pub enum Wrong {
     PrepaidMonthTurn,
     /// Registering in the zone again gives a prepaid account a new L.
     NewLimitOnRegisteringAgain,
-    /// 61 zone days of 123 are enough.
-    SixtyOneZoneDays,
-    /// 7 zone days of 15 are enough.
-    SevenZoneDays,
+    /// One zone day less is enough, over 123 days: 61 where no day is off.
+    OneZoneDayLessOf123,
+    /// One zone day less is enough, over 15 days: 7 where no day is off.
+    OneZoneDayLessOf15,
+    /// Off days count as home days do.
+    OffDaysAsHome,
+    /// Half of the days that are not off are enough.
+    HalfTheDaysPrevail,
+    /// The zone days themselves, not twice their number, must exceed the days
+    /// that are not off.
+    TwiceForgotten,
     /// A bundle's H runs on over the month's turn.
     MonthlyUseKept,
     /// Each row of caps begins a day late.
@@ -41,14 +48,17 @@ pub enum Wrong {
 }
 
 impl Wrong {
-    pub const ALL: [Wrong; 16] = [
+    pub const ALL: [Wrong; 19] = [
         Wrong::RoundsEachRecord,
         Wrong::LimitFromTopUp,
         Wrong::SurchargesTwice,
         Wrong::PrepaidMonthTurn,
         Wrong::NewLimitOnRegisteringAgain,
-        Wrong::SixtyOneZoneDays,
-        Wrong::SevenZoneDays,
+        Wrong::OneZoneDayLessOf123,
+        Wrong::OneZoneDayLessOf15,
+        Wrong::OffDaysAsHome,
+        Wrong::HalfTheDaysPrevail,
+        Wrong::TwiceForgotten,
         Wrong::MonthlyUseKept,
         Wrong::CapsOneDayLate,
         Wrong::OneMoreThanVolume,

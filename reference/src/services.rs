@@ -82,10 +82,13 @@ impl Day {
     }
 }
 
-/// What a window holds: zone days, and zone and other units of a service.
+/// What a window holds: its days by what they count as, and zone and other
+/// units of a service.
 #[derive(Clone, Copy, PartialEq, Eq, Debug, Default)]
 pub struct Window {
+    pub home_days: usize,
     pub zone_days: usize,
+    pub off_days: usize,
     pub zone_units: u64,
     pub other_units: u64,
 }
@@ -94,7 +97,11 @@ pub struct Window {
 pub fn window(log: &Log, w: usize, service: Service) -> Window {
     let mut sums = Window::default();
     for day in log.iter().take(w) {
-        sums.zone_days += usize::from(day.counts_as() == DayCount::Zone);
+        match day.counts_as() {
+            DayCount::Home => sums.home_days += 1,
+            DayCount::Zone => sums.zone_days += 1,
+            DayCount::Off => sums.off_days += 1,
+        }
         sums.zone_units += day.zone_units(service);
         sums.other_units += day.other_units(service);
     }
@@ -102,16 +109,33 @@ pub fn window(log: &Log, w: usize, service: Service) -> Window {
 }
 
 impl Window {
-    /// "At least 62 (w = 123) or 8 (w = 15) are zone days and zone units
-    /// exceed other units."
-    pub fn prevails(&self, w: usize) -> bool {
-        let least = match w {
-            LOG_DAYS if planted(Wrong::SixtyOneZoneDays) => 61,
-            LOG_DAYS => 62,
-            _ if planted(Wrong::SevenZoneDays) => 7,
-            _ => 8,
+    /// The logged days of the window that are not off.
+    pub fn days_on(&self) -> usize {
+        if planted(Wrong::OffDaysAsHome) {
+            return self.home_days + self.zone_days + self.off_days;
+        }
+        self.home_days + self.zone_days
+    }
+
+    /// Document 02, 1/13: whether twice the zone days exceed the days on.
+    fn zone_days_prevail(&self, w: usize) -> bool {
+        let zone_days = match w {
+            LOG_DAYS if planted(Wrong::OneZoneDayLessOf123) => self.zone_days + 1,
+            SHORT_DAYS if planted(Wrong::OneZoneDayLessOf15) => self.zone_days + 1,
+            _ => self.zone_days,
         };
-        self.zone_days >= least && self.zone_units > self.other_units
+        if planted(Wrong::HalfTheDaysPrevail) {
+            return 2 * zone_days >= self.days_on();
+        }
+        if planted(Wrong::TwiceForgotten) {
+            return zone_days > self.days_on();
+        }
+        2 * zone_days > self.days_on()
+    }
+
+    /// Zone days prevail and zone units exceed other units.
+    pub fn prevails(&self, w: usize) -> bool {
+        self.zone_days_prevail(w) && self.zone_units > self.other_units
     }
 }
 

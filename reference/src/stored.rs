@@ -39,7 +39,7 @@ const FERRY_CALLS: [Words; 6] = [
 ];
 
 /// The cases that the program `statement` is run on, too.
-const OF_STATEMENT: [&str; 14] = [
+const OF_STATEMENT: [&str; 15] = [
     "ferry",
     "empty",
     "eleven_bytes",
@@ -51,6 +51,7 @@ const OF_STATEMENT: [&str; 14] = [
     "form_3",
     "start_180",
     "limit_none",
+    "off_days_cleared",
     "largest",
     "largest_and_a_byte",
     "largest_and_a_word",
@@ -63,6 +64,7 @@ pub fn cases() -> Vec<StoredCase> {
     all.extend(bad_bodies());
     all.extend(trips());
     all.extend(service_trips());
+    all.extend(off_day_trips());
     all.extend(large_files());
     all
 }
@@ -290,6 +292,52 @@ fn service_trips() -> Vec<StoredCase> {
             "data_spared",
             "data Warned and, after 15 days at home, Clear again: no surcharge",
             file([PREPAID, 181, 10_000, 600, 500, 0, 0], &wavering),
+        ),
+    ]
+}
+
+/// From day 181 on, a box that is mostly off: for each pair the calls of a
+/// day and the number of day changes after them; at the end 1 GB in the zone.
+fn off_day_trip(days: &[(&[Words], usize)]) -> Vec<u8> {
+    let mut calls = vec![(6, 10_000_000)];
+    for (of_day, changes) in days {
+        calls.extend(*of_day);
+        calls.extend(vec![NEXT_DAY; *changes]);
+    }
+    calls.extend([ZONE, (2, 1_048_576)]);
+    file([PREPAID, 181, 10_000, 600, 500, 0, 0], &calls)
+}
+
+/// Document 02, 1/13: Warned at the 123rd day change, decided at the 138th.
+fn off_day_trips() -> Vec<StoredCase> {
+    let zone: &[Words] = &[ZONE, (2, 100)];
+    let home: &[Words] = &[HOME];
+    vec![
+        case(
+            "off_days",
+            "1 zone day of 123, the others off: data Warned; 1 of 15: Surcharged (1 GB bears it)",
+            off_day_trip(&[(zone, 123), (zone, 15)]),
+        ),
+        case(
+            "off_days_tied",
+            "1 zone day and 1 home day of 123, the others off: not Warned, and 1 GB bears nothing",
+            off_day_trip(&[(zone, 1), (home, 137)]),
+        ),
+        case(
+            "off_days_spared",
+            "1 zone day of 123: Warned; 1 zone day and 1 home day of 15, the others off: Clear",
+            off_day_trip(&[(zone, 123), (zone, 1), (home, 14)]),
+        ),
+        case(
+            "off_days_cleared",
+            "Surcharged as in `off_days` (1 GB bears it), Clear once 2 home days stand beside 2 zone days",
+            off_day_trip(&[
+                (zone, 123),
+                (zone, 15),
+                (&[ZONE, (2, 1_048_576)], 1),
+                (home, 1),
+                (home, 1),
+            ]),
         ),
     ]
 }

@@ -240,10 +240,36 @@ fn short_logs_and_no_units() {
         State::Surcharged
     );
     assert!(!prevalent(&log, 123, Service::Sms), "0 against 0");
-    log.truncate(8);
-    assert!(prevalent(&log, 15, Service::Data));
-    log.truncate(7);
-    assert!(!prevalent(&log, 15, Service::Data));
+    log.truncate(1);
+    assert!(prevalent(&log, 15, Service::Data), "all days there are");
+    log.push_back(day_of([false, false, true], Kind::Data, [0, 0, 0]));
+    assert!(!prevalent(&log, 15, Service::Data), "one of two");
+    log.clear();
+    assert!(!prevalent(&log, 15, Service::Data), "no day");
+}
+
+#[test]
+fn a_month_in_a_drawer_counts_neither_way() {
+    // 63 days in the zone, a month off, 30 days at home.
+    let zone_day = day_of([false, true, false], Kind::Data, [0, 2, 0]);
+    let home_day = day_of([true, false, false], Kind::Data, [1, 0, 0]);
+    let mut log: Log = vec![home_day; 30].into();
+    log.extend([Day::default(); 30]);
+    log.extend([zone_day; 63]);
+    assert!(prevalent(&log, 123, Service::Data), "63 against 30");
+    log.iter_mut()
+        .rev()
+        .take(33)
+        .for_each(|day| *day = Day::default());
+    assert!(!prevalent(&log, 123, Service::Data), "30 against 30");
+    log[100] = zone_day;
+    assert!(prevalent(&log, 123, Service::Data), "31 against 30");
+    let state = step(State::Surcharged, &log, Service::Data);
+    assert_eq!(state, State::Surcharged);
+    log.push_front(home_day);
+    log.truncate(123);
+    let state = step(State::Surcharged, &log, Service::Data);
+    assert_eq!(state, State::Clear, "a home day joined: 31 against 31");
 }
 
 #[test]

@@ -1,5 +1,5 @@
-//! The eleven figures marked * in 01, the table of caps, the calendar and the
-//! statement that 01 prints.
+//! The eleven figures marked * in 01, the windows with off days of 02, 1/13, the
+//! table of caps, the calendar and the statement that 01 prints.
 
 mod common;
 use common::*;
@@ -62,6 +62,30 @@ fn e33_prevalence_over_15_days() {
     assert!(prevalent(&log_of(8, 123, 0), 15, Service::Data));
     assert!(prevalent(&log_of(8, 15, 79), 15, Service::Data));
     assert!(!prevalent(&log_of(8, 15, 80), 15, Service::Data));
+}
+
+/// A log of so many zone days with 10 kB each, home days and off days.
+fn log_with_off_days(zone_days: usize, home_days: usize, off_days: usize) -> Log {
+    let mut log = log_of(zone_days, zone_days + home_days + 1, 0);
+    log.pop_back();
+    log.extend(vec![Day::default(); off_days]);
+    log
+}
+
+#[test]
+fn off_days_of_02() {
+    for w in [15, 123] {
+        let prevails = |zone, home, off| {
+            let log = log_with_off_days(zone, home, off);
+            assert_eq!(log.len(), w);
+            prevalent(&log, w, Service::Data)
+        };
+        assert!(prevails(1, 0, w - 1));
+        assert!(!prevails(1, 1, w - 2));
+        assert!(!prevails(0, 0, w));
+        assert!(prevails(2, 1, w - 3));
+        assert!(!prevails(4, 4, w - 8));
+    }
 }
 
 #[test]

@@ -1,13 +1,13 @@
--- The marked figures hold, by computation. Assumes nothing.
+-- The figures hold, by computation. Assumes nothing.
 use mathlib.Core.Path.{refl}
 use Rattle.tariff.specs.Tests.{all}
 use Rattle.tariff.specs.Caps.{caps-on, caps-from}
 use Rattle.tariff.specs.Plan.{open-bundle, credit-allowance, plan-allowance}
 use Rattle.tariff.specs.Charges.{home-charges-of}
-use Rattle.presence.specs.Day.{zone-day, counts-as}
-use Rattle.presence.specs.Window.{sum-days, prevalent, prevalent-long}
+use Rattle.presence.specs.Day.{zone-day, on-day, counts-as}
+use Rattle.presence.specs.Window.{sum-days, prevalent, prevalent-long, prevalent-short}
 use Rattle.figures.specs.Figures.{figures, FiguresHold}
 
 pub figures-hold : FiguresHold
-unfolding all figures caps-on caps-from open-bundle credit-allowance plan-allowance home-charges-of zone-day counts-as sum-days prevalent prevalent-long
-figures-hold = record { eleven = refl; hold = refl }
+unfolding all figures caps-on caps-from open-bundle credit-allowance plan-allowance home-charges-of zone-day on-day counts-as sum-days prevalent prevalent-long prevalent-short
+figures-hold = record { seventeen = refl; hold = refl }

@@ -1,4 +1,4 @@
--- 01, "Figures": the eleven marked figures, as one table of tests over the definitions that the contracts cite. Assumes nothing.
+-- 01, "Figures": the eleven marked figures, and six of 02, 1/13, as one table of tests over the definitions that the contracts cite. Assumes nothing.
 use Prim.Native.Nat.{ℕ}
 use mathlib.Core.Path.{_≡_}
 use mathlib.Core.Bool.{Bool, true, false, not}
@@ -19,7 +19,7 @@ use Rattle.tariff.specs.Plan.{open-bundle, credit-allowance, plan-allowance}
 use Rattle.tariff.specs.Charges.{home-charges-of}
 use Rattle.presence.specs.declared.Day.{Day}
 use Rattle.presence.specs.declared.Service.the-variants.{DataService}
-use Rattle.presence.specs.Window.{prevalent-long}
+use Rattle.presence.specs.Window.{prevalent-long, prevalent-short}
 
 -- the allowance is this number of kB
 abbrev pub allows : Allowance → ℕ → Bool
@@ -42,6 +42,10 @@ zone-kb n = record { home = false; zone = true; elsewhere = false; athome = zero
 abbrev pub home-kb : ℕ → Day
 home-kb n = record { home = true; zone = false; elsewhere = false; athome = only Data n; inzone = zero-units; outside = zero-units }
 
+-- a day without marks, so off, on which kB stand in the zone all the same: days alone then decide
+abbrev pub off-kb : ℕ → Day
+off-kb n = record { home = false; zone = false; elsewhere = false; athome = zero-units; inzone = only Data n; outside = zero-units }
+
 -- the figures, each as a test that holds
 unfoldable pub figures : List Bool
 figures =
@@ -56,15 +60,25 @@ figures =
     -- "Prepaid credit 2000, cap 970: L 2162012; that use at 500/GB costs 1030"
     ∷ allows (credit-allowance 2000 970) 2162012
     ∷ eqb (home-charges-of (prepaid-at 500) (only Data 2162012)) 1030
-    -- "61 zone days of 123 aren't prevalent", with 61,000 zone kB against none; "62 with zone units one more than the others are"
+    -- prevalence over 123 days of which none is off (02, 1/13): 61 zone days, of 61,000 kB in all, and 62 home days without use aren't prevalent; 62 zone days and
+    -- 61 home days of 1 kB each, so 1 kB more in the zone, are
     ∷ not (prevalent-long DataService 123 (replicate 61 (zone-kb 1000) ++ replicate 62 (home-kb 0)))
     ∷ prevalent-long DataService 123 (replicate 62 (zone-kb 1) ++ replicate 61 (home-kb 1))
     -- "Day 1460 has data cap 13000, 1461 has 11000"
     ∷ eqb (caps-on 1460 .kb) 13000
     ∷ eqb (caps-on 1461 .kb) 11000
+    -- 02, 1/13, over 123 days, with more zone kB than others: 1 zone day and 122 off days are prevalent; 1 zone day, 1 home day and 121 off days aren't; 123 off days
+    -- aren't
+    ∷ prevalent-long DataService 123 (zone-kb 1 ∷ replicate 122 (off-kb 1))
+    ∷ not (prevalent-long DataService 123 (zone-kb 1 ∷ home-kb 0 ∷ replicate 121 (off-kb 1)))
+    ∷ not (prevalent-long DataService 123 (replicate 123 (off-kb 1)))
+    -- the same over 15 days
+    ∷ prevalent-short DataService 15 (zone-kb 1 ∷ replicate 14 (off-kb 1))
+    ∷ not (prevalent-short DataService 15 (zone-kb 1 ∷ home-kb 0 ∷ replicate 13 (off-kb 1)))
+    ∷ not (prevalent-short DataService 15 (replicate 15 (off-kb 1)))
     ∷ []
 
--- 01, "Questions to put to a promise": each marked figure holds of the definitions, all in one statement
+-- 01, "Questions to put to a promise": each of the figures holds of the definitions, all in one statement
 pub record FiguresHold : Type 0 where
-  pub eleven : length figures ≡ 11
+  pub seventeen : length figures ≡ 17
   pub hold : all figures ≡ true

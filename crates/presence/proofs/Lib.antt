@@ -4,4 +4,5 @@ pub mod Shift
 pub mod Logs
 pub mod Ceiling
 pub mod Totals
+pub mod Prevalence
 pub mod Claimed

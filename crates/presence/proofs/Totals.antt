@@ -1,37 +1,43 @@
 -- The sums of a window, one day at a time, and that those of a sound log stay small. Assumes nothing.
-use Prim.Native.Nat.{ℕ, zero, suc, _+_, _-_, _≤_, _<_}
+use Prim.Native.Nat.{ℕ, zero, suc, _+_, _-_, _≤_, _<_, min}
 use mathlib.Core.Path.{_≡_, refl}
 use mathlib.Core.List.{List}
 use native.Mathlib.Omega.{arith}
 use native.Mathlib.Numerals.{sub-one}
 use lib.ListN.{getD}
 use Rattle.tariff.specs.declared.Units.{Units}
+use Rattle.tariff.specs.Units.{AtMost}
 use Rattle.presence.specs.declared.Day.{Day}
 use Rattle.presence.specs.declared.DayKind.{DayKind}
 use Rattle.presence.specs.declared.DayKind.the-variants.{HomeDay, ZoneDay, OffDay}
 use Rattle.presence.specs.declared.Service.{Service}
 use Rattle.presence.specs.declared.Service.the-variants.{DataService, CallService, SmsService}
 use Rattle.presence.specs.declared.ServiceState.{ServiceState}
-use Rattle.presence.specs.Day.{empty-day, day-units, zone-day, one-if-zone, counts-as}
+use Rattle.presence.specs.Day.{empty-day, day-units, zone-day, one-if-zone, on-day, one-if-on, counts-as}
 use Rattle.presence.specs.Window.{zone-units, other-units, sum-days, prevalent, prevalent-long, prevalent-short, window-sums}
 use Rattle.presence.specs.Service.{next-state}
-use Rattle.presence.specs.Log.{units-over}
+use Rattle.presence.specs.Log.{units-over, lifetime-most}
 use Rattle.presence.specs.Held.{Low, Small, sums-with, both-windows, stepped-by}
-use Rattle.presence.proofs.Logs.{over-at}
+use Rattle.presence.proofs.Logs.{over-at, over-fewer}
 
 -- what a window may add up: of a day, no more than its units, and 1
 abbrev pub Moderate : (Day → ℕ) → Type 0
 Moderate f = (d : Day) → f d ≤ d .athome .kb + d .inzone .kb + d .outside .kb + (d .athome .outgoing + d .inzone .outgoing + d .outside .outgoing)
     + (d .athome .incoming + d .inzone .incoming + d .outside .incoming) + (d .athome .sms + d .inzone .sms + d .outside .sms) + 1
 
-one-at-most : (k : DayKind) → one-if-zone k ≤ 1
-one-at-most HomeDay = omega arith
-one-at-most ZoneDay = omega arith
-one-at-most OffDay = omega arith
+-- a zone day is a day that isn't off, and a day counts once at most
+one-at-most : (k : DayKind) → (one-if-zone k ≤ one-if-on k) × (one-if-on k ≤ 1)
+one-at-most HomeDay = (omega arith, omega arith)
+one-at-most ZoneDay = (omega arith, omega arith)
+one-at-most OffDay = (omega arith, omega arith)
 
 pub zone-days-moderate : Moderate zone-day
 unfolding zone-day
 zone-days-moderate d = omega (arith, one-at-most (counts-as d))
+
+pub on-days-moderate : Moderate on-day
+unfolding on-day
+on-days-moderate d = omega (arith, one-at-most (counts-as d))
 
 pub zone-moderate : (s : Service) → Moderate (zone-units s)
 zone-moderate DataService d = omega arith
@@ -59,7 +65,8 @@ module _ (f : Day → ℕ) where
 pub sums-small : (w : ℕ) (ds : List Day) → w ≤ 123 → Low (units-over w ds) → Small (window-sums w ds)
 unfolding window-sums
 sums-small w ds h l = record {
-  days = sum-small zone-day zone-days-moderate w ds h l;
+  zonedays = sum-small zone-day zone-days-moderate w ds h l;
+  ondays = sum-small on-day on-days-moderate w ds h l;
   zonekb = sum-small (zone-units DataService) (zone-moderate DataService) w ds h l;
   otherkb = sum-small (other-units DataService) (other-moderate DataService) w ds h l;
   zonecalls = sum-small (zone-units CallService) (zone-moderate CallService) w ds h l;
@@ -68,8 +75,15 @@ sums-small w ds h l = record {
   othersms = sum-small (other-units SmsService) (other-moderate SmsService) w ds h l;
 }
 
+-- so do those of both windows of a sound log
+pub windows-small : (n : ℕ) (ds : List Day) → n ≤ 123 → AtMost (units-over n ds) lifetime-most → Small (both-windows n ds .long) × Small (both-windows n ds .short)
+windows-small n ds h m = (of-days 123, of-days 15)
+  where
+    of-days : (w : ℕ) → Small (window-sums (min w n) ds)
+    of-days w = sums-small (min w n) ds (omega arith) (omega (arith, over-fewer (min w n) n ds (omega arith), m))
+
 -- the sums over no day, and over one day more
-pub sums-none : (w : ℕ) (ds : List Day) → w ≡ 0 → window-sums w ds ≡ record { days = 0; zonekb = 0; otherkb = 0; zonecalls = 0; othercalls = 0; zonesms = 0; othersms = 0 }
+pub sums-none : (w : ℕ) (ds : List Day) → w ≡ 0 → window-sums w ds ≡ record { zonedays = 0; ondays = 0; zonekb = 0; otherkb = 0; zonecalls = 0; othercalls = 0; zonesms = 0; othersms = 0 }
 unfolding window-sums sum-days
 sums-none w ds e = rw e refl
 

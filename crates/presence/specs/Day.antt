@@ -1,4 +1,4 @@
--- 01, "Account and its calls": today's marks and its units by kind and place, what a day counts as, and the log. Assumes nothing.
+-- 01, "Account and its calls": the record of a day (its marks, and its units of each kind at each place), what a day counts as, and the log of days. Assumes nothing.
 use Prim.Native.Nat.{ℕ}
 use mathlib.Core.Bool.{Bool, true, false, cond, _||_}
 use mathlib.Core.List.{List, _∷_}
@@ -49,7 +49,7 @@ pub record DayAdds (d : Day) (u : Units) : Type 0 where
   pub zone-adds : Adds (d .inzone) u
   pub outside-adds : Adds (d .outside) u
 
--- "It counts as home if marked home or elsewhere, else zone if marked zone, else off."
+-- 01, Next day, what a day "counts as": with a mark of home or of elsewhere it is a home day, with a mark of the zone alone a zone day, without marks it is off
 unfoldable pub counts-as : Day → DayKind
 counts-as d = cond (d .home || d .elsewhere) HomeDay (cond (d .zone) ZoneDay OffDay)
 
@@ -63,10 +63,20 @@ one-if-zone OffDay = 0
 unfoldable pub zone-day : Day → ℕ
 zone-day d = one-if-zone (counts-as d)
 
+-- 1 for a home day or a zone day, 0 for an off day, by what the day counts as
+abbrev pub one-if-on : DayKind → ℕ
+one-if-on HomeDay = 1
+one-if-on ZoneDay = 1
+one-if-on OffDay = 0
+
+-- 02, 1/13, the days "that aren't off": 1 for a day that is one, else 0
+unfoldable pub on-day : Day → ℕ
+on-day d = one-if-on (counts-as d)
+
 -- a day's units of each kind, wherever used
 abbrev pub day-units : Day → Units
 day-units d = d .athome ⊕ d .inzone ⊕ d .outside
 
--- "today joins the log of the last 123 days (older ones drop)": the newest day stands first
+-- 01, Next day: the day that ends becomes the newest of the log, and stands first; of more than 123 days the oldest drops out
 unfoldable pub joined : Day → List Day → List Day
 joined d ds = take 123 (d ∷ ds)

@@ -1,4 +1,4 @@
--- What the code's own helpers ask and answer: sums held at a ceiling, and sums of a window. Numbers of 01 that recur here (123, 15, 62, 8) are tied to its rules
+-- What the code's own helpers ask and answer: sums held at a ceiling, and sums of a window. Numbers of 01 that recur here (123, 15) are tied to its rules
 -- by the contract of `services_next`. Assumes nothing.
 use Prim.Native.Nat.{ℕ, zero, suc, _+_, _≤_, min}
 use mathlib.Core.Path.{_≡_}
@@ -9,11 +9,12 @@ use Rattle.tariff.specs.declared.Units.{Units}
 use Rattle.tariff.specs.Units.{each, zero-units, _⊕_, AtMost}
 use Rattle.presence.specs.declared.Day.{Day}
 use Rattle.presence.specs.declared.Sums.{Sums}
+use Rattle.presence.specs.declared.DayCounts.{DayCounts}
 use Rattle.presence.specs.declared.Windows.{Windows}
 use Rattle.presence.specs.declared.ServiceState.{ServiceState}
 use Rattle.presence.specs.declared.Service.{Service}
 use Rattle.presence.specs.declared.Service.the-variants.{DataService, CallService, SmsService}
-use Rattle.presence.specs.Day.{empty-day, zone-day}
+use Rattle.presence.specs.Day.{empty-day, zone-day, on-day}
 use Rattle.presence.specs.Window.{zone-units, other-units, window-sums, sums-zone, sums-other, prevailing}
 use Rattle.presence.specs.Service.{state-step}
 
@@ -40,7 +41,8 @@ Low u = AtMost u (each 1000000000001 1000000000001 1000000000001 1000000000001)
 
 -- sums small enough to add a day's units to
 pub record Small (s : Sums) : Type 0 where
-  pub days : s .days ≤ 5000000000000
+  pub zonedays : s .zonedays ≤ 5000000000000
+  pub ondays : s .ondays ≤ 5000000000000
   pub zonekb : s .zonekb ≤ 5000000000000
   pub otherkb : s .otherkb ≤ 5000000000000
   pub zonecalls : s .zonecalls ≤ 5000000000000
@@ -48,10 +50,15 @@ pub record Small (s : Sums) : Type 0 where
   pub zonesms : s .zonesms ≤ 5000000000000
   pub othersms : s .othersms ≤ 5000000000000
 
+-- what a day adds to a window's counts of days
+abbrev pub counts-of : Day → DayCounts
+counts-of d = record { zone = zone-day d; on = on-day d }
+
 -- the sums of a window with one day more
 abbrev pub sums-with : Sums → Day → Sums
 sums-with s d = record {
-  days = zone-day d + s .days;
+  zonedays = zone-day d + s .zonedays;
+  ondays = on-day d + s .ondays;
   zonekb = zone-units DataService d + s .zonekb;
   otherkb = other-units DataService d + s .otherkb;
   zonecalls = zone-units CallService d + s .zonecalls;
@@ -67,5 +74,5 @@ both-windows n ds = record { long = window-sums (min 123 n) ds; short = window-s
 -- a service's step from the sums of both windows
 abbrev pub stepped-by : Service → ℕ → Windows → ServiceState → ServiceState
 stepped-by s n w state =
-    state-step (leb 123 n) (prevailing 62 (w .long .days) (sums-zone s (w .long)) (sums-other s (w .long)))
-    (prevailing 8 (w .short .days) (sums-zone s (w .short)) (sums-other s (w .short))) state
+    state-step (leb 123 n) (prevailing (w .long .zonedays) (w .long .ondays) (sums-zone s (w .long)) (sums-other s (w .long)))
+    (prevailing (w .short .zonedays) (w .short .ondays) (sums-zone s (w .short)) (sums-other s (w .short))) state

@@ -1,52 +1,57 @@
--- 01, "Account and its calls", Next day: the sums over the last days, and when a service is prevalent. Assumes nothing.
-use Prim.Native.Nat.{ℕ, zero, suc, _+_, min}
+-- 01, "Account and its calls", Next day: the sums over the last days, and when a service is prevalent, with the rule about off days of 02, 1/13. Assumes nothing.
+use Prim.Native.Nat.{ℕ, zero, suc, _+_, _*_, min}
 use mathlib.Core.Bool.{Bool, _&&_}
 use mathlib.Core.List.{List}
-use lib.Dec.{leb, ltb}
+use lib.Dec.{ltb}
 use lib.ListN.{getD}
 use Rattle.presence.specs.declared.Day.{Day}
 use Rattle.presence.specs.declared.Service.{Service}
 use Rattle.presence.specs.declared.Service.the-variants.{DataService, CallService, SmsService}
 use Rattle.presence.specs.declared.Sums.{Sums}
-use Rattle.presence.specs.Day.{empty-day, zone-day}
+use Rattle.presence.specs.Day.{empty-day, zone-day, on-day}
 
--- "Zone units of calls are zone outgoing + incoming"
+-- 01, "zone units" of a service: those used in the zone; of calls, seconds called and received together
 abbrev pub zone-units : Service → Day → ℕ
 zone-units DataService d = d .inzone .kb
 zone-units CallService d = d .inzone .outgoing + d .inzone .incoming
 zone-units SmsService d = d .inzone .sms
 
--- "their other units are home outgoing and both kinds elsewhere"
+-- 01, "other units" of a service: those used at home and elsewhere; of calls, seconds received at home are left out
 abbrev pub other-units : Service → Day → ℕ
 other-units DataService d = d .athome .kb + d .outside .kb
 other-units CallService d = d .athome .outgoing + d .outside .outgoing + d .outside .incoming
 other-units SmsService d = d .athome .sms + d .outside .sms
 
--- "The sum over the last w days is a function that calls itself on one day less": the w newest days stand first
+-- 01, the sum "over the last w days": that of one day less, and what the day before them adds; the w newest days stand first
 unfoldable pub sum-days : (Day → ℕ) → ℕ → List Day → ℕ
 sum-days f zero ds = 0
 sum-days f (suc w) ds = f (getD ds w empty-day) + sum-days f w ds
 
--- at least so many zone days, and zone units exceed other units
+-- 02, 1/13: twice the zone days are more than the days that aren't off; and 01: zone units exceed other units
 abbrev pub prevailing : ℕ → ℕ → ℕ → ℕ → Bool
-prevailing need days zone other = leb need days && ltb other zone
+prevailing zonedays ondays zone other = ltb ondays (2 * zonedays) && ltb other zone
 
--- "A service is prevalent over w days (all logged ones, if fewer)": `need` zone days, with n days logged
-unfoldable pub prevalent : Service → ℕ → ℕ → ℕ → List Day → Bool
-prevalent s w need n ds = prevailing need (sum-days zone-day (min w n) ds) (sum-days (zone-units s) (min w n) ds) (sum-days (other-units s) (min w n) ds)
+-- 01, "prevalent over w days", or over the n logged days where these are fewer. Off days are among the w days; only the comparison of days leaves them
+-- out. Without a day that isn't off nothing is prevalent, and without off days 62 of 123 and 8 of 15 zone days are needed (`OffDaysOnly` and `FullWindows` in
+-- specs/Claims).
+unfoldable pub prevalent : Service → ℕ → ℕ → List Day → Bool
+prevalent s w n ds =
+    prevailing (sum-days zone-day (min w n) ds) (sum-days on-day (min w n) ds)
+    (sum-days (zone-units s) (min w n) ds) (sum-days (other-units s) (min w n) ds)
 
--- "at least 62 (w = 123) or 8 (w = 15) are zone days"
+-- prevalent over 123 days
 unfoldable pub prevalent-long : Service → ℕ → List Day → Bool
-prevalent-long s n ds = prevalent s 123 62 n ds
+prevalent-long s n ds = prevalent s 123 n ds
 
--- the same over 15 days
+-- prevalent over 15 days
 unfoldable pub prevalent-short : Service → ℕ → List Day → Bool
-prevalent-short s n ds = prevalent s 15 8 n ds
+prevalent-short s n ds = prevalent s 15 n ds
 
 -- all the sums of a window
 unfoldable pub window-sums : ℕ → List Day → Sums
 window-sums w ds = record {
-  days = sum-days zone-day w ds;
+  zonedays = sum-days zone-day w ds;
+  ondays = sum-days on-day w ds;
   zonekb = sum-days (zone-units DataService) w ds;
   otherkb = sum-days (other-units DataService) w ds;
   zonecalls = sum-days (zone-units CallService) w ds;

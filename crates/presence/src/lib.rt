@@ -10,11 +10,11 @@ ghost use Prim.Native.Nat.{ℕ, _+_, _≤_, _<_, min};
 ghost use lib.Dec.{leb, ltb};
 ghost use lib.ListN.{drop, replicate, take, getD, length};
 ghost use Rattle.tariff.specs.Units.{_⊕_, each, AtMost};
-ghost use Rattle.presence.specs.Day.{in-zone, is-placed, mark-day, add-day, DayAdds, counts-as, zone-day, day-units, empty-day};
+ghost use Rattle.presence.specs.Day.{in-zone, is-placed, mark-day, add-day, DayAdds, counts-as, day-units, empty-day};
 ghost use Rattle.presence.specs.Window.{zone-units, other-units, window-sums, sums-zone, sums-other, prevailing};
 ghost use Rattle.presence.specs.Service.{next-state, state-step, services-after};
 ghost use Rattle.presence.specs.Log.{marks-number, numbers-of, days-of, logged-with, units-over, blank, all-blank, marks-proper, lifetime-most, log-within};
-ghost use Rattle.presence.specs.Held.{held, held-day, held-over, Roomy, Low, Small, sums-with, both-windows, stepped-by};
+ghost use Rattle.presence.specs.Held.{held, held-day, held-over, Roomy, Low, Small, counts-of, sums-with, both-windows, stepped-by};
 
 // Where the hotspot is: nowhere before the first registration.
 pub enum Location {
@@ -59,15 +59,22 @@ pub struct Services {
     pub messages: ServiceState,
 }
 
-// The sums of a window: zone days, and each service's zone and other units.
+// The sums of a window: zone days, days that are not off, and each service's zone and other units.
 pub struct Sums {
-    pub days: u64,
+    pub zonedays: u64,
+    pub ondays: u64,
     pub zonekb: u64,
     pub otherkb: u64,
     pub zonecalls: u64,
     pub othercalls: u64,
     pub zonesms: u64,
     pub othersms: u64,
+}
+
+// A day among the zone days, and among the days that are not off: 0 or 1 each.
+struct DayCounts {
+    zone: u64,
+    on: u64,
 }
 
 // The sums over the last 123 days and over the last 15.
@@ -210,15 +217,15 @@ pub fn day_kind(d: Day) -> DayKind
     DayKind::OffDay
 }
 
-// 1 for a zone day, else 0.
-fn zone_bit(d: Day) -> u64
-    ensures { λ r. ⌜ r ≡ zone-day d ⌝ }
+// What a day adds to a window's zone days, and to its days that are not off.
+fn day_counts(d: Day) -> DayCounts
+    ensures { λ r. ⌜ r ≡ counts-of d ⌝ }
 {
     let k = day_kind(d);
     match k {
-        DayKind::HomeDay => 0,
-        DayKind::ZoneDay => 1,
-        DayKind::OffDay => 0,
+        DayKind::HomeDay => DayCounts { zone: 0, on: 1 },
+        DayKind::ZoneDay => DayCounts { zone: 1, on: 1 },
+        DayKind::OffDay => DayCounts { zone: 0, on: 0 },
     }
 }
 
@@ -348,7 +355,7 @@ fn add_day(s: Sums, d: Day) -> Sums
     requires { ⌜ Small s × Low (day-units d) ⌝ }
     ensures { λ r. ⌜ r ≡ sums-with s d ⌝ }
 {
-    let day = zone_bit(d);
+    let day = day_counts(d);
     let zonekb = zone_of(d, Service::DataService);
     let otherkb = other_of(d, Service::DataService);
     let zonecalls = zone_of(d, Service::CallService);
@@ -356,7 +363,8 @@ fn add_day(s: Sums, d: Day) -> Sums
     let zonesms = zone_of(d, Service::SmsService);
     let othersms = other_of(d, Service::SmsService);
     Sums {
-        days: day + s.days,
+        zonedays: day.zone + s.zonedays,
+        ondays: day.on + s.ondays,
         zonekb: zonekb + s.zonekb,
         otherkb: otherkb + s.otherkb,
         zonecalls: zonecalls + s.zonecalls,
@@ -373,7 +381,8 @@ fn sums_last(log: &[u64; 1599], w: usize) -> Sums
 {
     if w == 0 {
         return Sums {
-            days: 0,
+            zonedays: 0,
+            ondays: 0,
             zonekb: 0,
             otherkb: 0,
             zonecalls: 0,
@@ -383,8 +392,9 @@ fn sums_last(log: &[u64; 1599], w: usize) -> Sums
         };
     }
     let last = w - 1;
+    let s = sums_last(log, last);
     let d = day_at(log, last);
-    add_day(sums_last(log, last), d)
+    add_day(s, d)
 }
 
 fn lesser(m: usize, n: usize) -> usize
@@ -428,13 +438,15 @@ fn other_sum(s: Sums, v: Service) -> u64
     }
 }
 
-// Is the service prevalent, with at least `need` zone days?
-fn prevails(s: Sums, v: Service, need: u64) -> bool
-    ensures { λ r. ⌜ r ≡ prevailing need (s .days) (sums-zone v s) (sums-other v s) ⌝ }
+// Is the service prevalent? Off days are in neither count of days.
+fn prevails(s: Sums, v: Service) -> bool
+    requires { ⌜ Small s ⌝ }
+    ensures { λ r. ⌜ r ≡ prevailing (s .zonedays) (s .ondays) (sums-zone v s) (sums-other v s) ⌝ }
 {
     let zone = zone_sum(s, v);
     let other = other_sum(s, v);
-    (need <= s.days) & (other < zone)
+    let on = s.ondays;
+    (on < 2 * s.zonedays) & (other < zone)
 }
 
 fn step(full: bool, long: bool, short: bool, state: ServiceState) -> ServiceState
@@ -469,12 +481,13 @@ fn step(full: bool, long: bool, short: bool, state: ServiceState) -> ServiceStat
 
 // A service's state after a day change, with n days logged.
 fn state_after(v: Service, n: usize, w: Windows, state: ServiceState) -> ServiceState
+    requires { ⌜ Small (w .long) × Small (w .short) ⌝ }
     ensures { λ r. ⌜ r ≡ stepped-by v n w state ⌝ }
 {
     let long = w.long;
     let short = w.short;
-    let over_long = prevails(long, v, 62);
-    let over_short = prevails(short, v, 8);
+    let over_long = prevails(long, v);
+    let over_short = prevails(short, v);
     step(123 <= n, over_long, over_short, state)
 }
 

@@ -34,5 +34,6 @@ fn main() {
     caps_and_figures();
     windows::of_123_days();
     windows::of_15_days();
+    windows::with_off_days();
     windows::from_day_181();
 }

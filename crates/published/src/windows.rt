@@ -1,4 +1,4 @@
-// Windows of 123 and of 15 days, 002 articles 32 to 35, through whole accounts from day 181 on.
+// Windows of 123 and of 15 days, 002 articles 32 to 35, and days off, 004, through whole accounts from day 181 on.
 use super::lines::number;
 use super::lines::plan;
 use super::lines::text;
@@ -12,14 +12,12 @@ fn fresh() -> Account {
     r.account
 }
 
-// n days, each with a registration (0 home, 1 zone) and a use of data there; fewer if a call is refused.
-fn days(a: Account, place: u32, kb: u32, n: u64) -> Account {
-    let codes = [1u32, 2, 7];
-    let numbers = [place, kb, 0];
+// The same calls n times; fewer if one is refused.
+fn again(a: Account, codes: &[u32], numbers: &[u32], n: u64) -> Account {
     let mut held = a;
     let mut i: u64 = 0;
     while i < n {
-        let r = replay::replay(held, &codes, &numbers);
+        let r = replay::replay(held, codes, numbers);
         held = r.account;
         if r.refused > 0 {
             return held;
@@ -27,6 +25,20 @@ fn days(a: Account, place: u32, kb: u32, n: u64) -> Account {
         i += 1;
     }
     held
+}
+
+// n days, each with a registration (0 home, 1 zone) and a use of data there.
+fn days(a: Account, place: u32, kb: u32, n: u64) -> Account {
+    let codes = [1u32, 2, 7];
+    let numbers = [place, kb, 0];
+    again(a, &codes, &numbers, n)
+}
+
+// n days with the hotspot off.
+fn off(a: Account, n: u64) -> Account {
+    let codes = [7u32];
+    let numbers = [0u32];
+    again(a, &codes, &numbers, n)
 }
 
 // The account's day and the state of its data service.
@@ -65,6 +77,26 @@ pub fn of_15_days() {
     let warned = days(fresh(), 1, 1, 123);
     state_line(b"E33 7 zone days,", days(days(warned, 0, 1, 8), 1, 1000, 7));
     state_line(b"E33 8 zone days,", days(days(warned, 0, 1, 7), 1, 1, 8));
+}
+
+// 004 leaves out days with the device off (02, 1/13). Over 123 days, then over the 15 after the warning: one zone day and no other; a zone day with more kB
+// than a home day; no day but off days.
+pub fn with_off_days() {
+    let zone = days(fresh(), 1, 2, 1);
+    let warned = off(zone, 122);
+    state_line(b"E38 1 zone day, 122 off,", warned);
+    state_line(
+        b"E38 1 zone day, 1 home day, 121 off,",
+        off(days(zone, 0, 1, 1), 121),
+    );
+    state_line(b"E38 123 off,", off(fresh(), 123));
+    let later = days(warned, 1, 2, 1);
+    state_line(b"E38 1 zone day, 14 off,", off(later, 14));
+    state_line(
+        b"E38 1 zone day, 1 home day, 13 off,",
+        off(days(later, 0, 1, 1), 13),
+    );
+    state_line(b"E38 15 off,", off(warned, 15));
 }
 
 // Data used in the zone every day. The count of a warning is 0 to 14.

@@ -3,7 +3,7 @@ use Rattle.presence.specs.Log.{days-of}
 use mathlib.Core.Path.{_≡_, _∙_}
 use Rattle.presence.specs.declared.Service.the-variants.{DataService, CallService, SmsService}
 use Rattle.presence.specs.Service.{next-state, services-after}
-use Rattle.presence.proofs.Totals.{step-is}
+use Rattle.presence.proofs.Totals.{step-is, windows-small}
 use borrow.Author.Needs.{needs}
 use Rattle.presence.proofs.services_next.Statement.{statement}
 use Rattle.presence.proofs.services_next.Tie as tie
@@ -12,13 +12,16 @@ sum-windows-requires : tie.Need-sum-windows-requires
 sum-windows-requires c κs = search needs
 
 state-after-requires : tie.Need-state-after-requires
-state-after-requires c κs = search needs
+state-after-requires c κs = let d = c .before in
+    rw (c .sum-windows .ensures) (windows-small (d .args .n) (days-of (d .args .log .now)) (d .pre .0) (d .pre .1))
 
 state-after-requires-2 : tie.Need-state-after-requires-2
-state-after-requires-2 c κs = search needs
+state-after-requires-2 c κs = let d = c .before .before in
+    rw (c .before .sum-windows .ensures) (windows-small (d .args .n) (days-of (d .args .log .now)) (d .pre .0) (d .pre .1))
 
 state-after-requires-3 : tie.Need-state-after-requires-3
-state-after-requires-3 c κs = search needs
+state-after-requires-3 c κs = let d = c .before .before .before in
+    rw (c .before .before .sum-windows .ensures) (windows-small (d .args .n) (days-of (d .args .log .now)) (d .pre .0) (d .pre .1))
 
 returns : tie.Need-returns
 unfolding services-after

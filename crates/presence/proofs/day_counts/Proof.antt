@@ -1,8 +1,8 @@
--- `presence::zone_bit` meets its contract. Assumes nothing.
-use Rattle.presence.specs.Day.{zone-day}
+-- `presence::day_counts` meets its contract. Assumes nothing.
+use Rattle.presence.specs.Day.{zone-day, on-day}
 use borrow.Author.Needs.{needs}
-use Rattle.presence.proofs.zone_bit.Statement.{statement}
-use Rattle.presence.proofs.zone_bit.Tie as tie
+use Rattle.presence.proofs.day_counts.Statement.{statement}
+use Rattle.presence.proofs.day_counts.Tie as tie
 
 day-kind-requires : tie.Need-day-kind-requires
 day-kind-requires c κs = search needs
@@ -17,18 +17,18 @@ enum-told-3 : tie.Need-enum-told-3
 enum-told-3 c = search needs
 
 returns : tie.Need-returns
-unfolding zone-day
+unfolding zone-day on-day
 returns c = simp (← c .before .before .day-kind .ensures, c .enum-told .given .1)
 
 returns-2 : tie.Need-returns-2
-unfolding zone-day
+unfolding zone-day on-day
 returns-2 c = simp (← c .before .before .day-kind .ensures, c .enum-told2 .given .1)
 
 returns-3 : tie.Need-returns-3
-unfolding zone-day
+unfolding zone-day on-day
 returns-3 c = simp (← c .before .before .day-kind .ensures, c .enum-told3 .given .1)
 
-pub zone-bit-spec : {M : Type 1} → statement M
-zone-bit-spec =
+pub day-counts-spec : {M : Type 1} → statement M
+day-counts-spec =
     tie.close
     (tie.spec day-kind-requires enum-told enum-told-2 enum-told-3 returns returns-2 returns-3)

@@ -1,24 +1,18 @@
--- `published::windows::days` meets its contract. Assumes nothing.
+-- `published::windows::again` meets its contract. Assumes nothing.
 use Prim.Native.Nat.{_≤_, _-_}
 use native.Mathlib.Omega.{arith}
 use borrow.Author.Needs.{needs}
-use Rattle.published.proofs.windows.days.Statement.{statement}
-use Rattle.published.proofs.windows.days.Tie as tie
+use Rattle.published.proofs.windows.again.Statement.{statement}
+use Rattle.published.proofs.windows.again.Tie as tie
 
 abbrev Inv-loop : tie.InvT-loop
-Inv-loop place kb n codes numbers held₀ i₀ held i = i ≤ n
+Inv-loop codes numbers n held₀ i₀ held i = i ≤ n
 
 abbrev μ-loop : tie.MeasureT-loop
-μ-loop place kb n codes numbers held₀ i₀ held i = n - i
+μ-loop codes numbers n held₀ i₀ held i = n - i
 
 loop-holds : tie.Need-loop-holds Inv-loop μ-loop
 loop-holds c = search needs
-
-slice-aggregate-replay : tie.Need-slice-aggregate-replay Inv-loop μ-loop
-slice-aggregate-replay c = search needs
-
-slice-aggregate-replay-2 : tie.Need-slice-aggregate-replay-2 Inv-loop μ-loop
-slice-aggregate-replay-2 c = search needs
 
 replay-requires : tie.Need-replay-requires Inv-loop μ-loop
 replay-requires c κs = tt
@@ -38,15 +32,13 @@ loop-again c = omega arith
 returns-2 : tie.Need-returns-2 Inv-loop μ-loop
 returns-2 c = tt
 
-pub days-spec : {M : Type 1} → statement M
-days-spec =
+pub again-spec : {M : Type 1} → statement M
+again-spec =
     tie.close
     (tie.spec
     Inv-loop
     μ-loop
     loop-holds
-    slice-aggregate-replay
-    slice-aggregate-replay-2
     replay-requires
     returns
     add-i
