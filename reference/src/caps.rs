@@ -1,4 +1,5 @@
-//! The table of wholesale caps ("Units and caps").
+//! The table of wholesale caps ("Units and caps"), and the search for those
+//! of a day (02, 2/13).
 
 use crate::planted::{planted, Wrong};
 
@@ -16,15 +17,43 @@ pub const ROWS: [(u32, Caps); 6] = [
     (1826, [10_000, 190, 20, 30]),
 ];
 
-/// The caps of a day. Days before the first row have no caps; they occur in
-/// unsound accounts only and get the first row, which is then never used.
-pub fn caps_on(day: u32) -> Caps {
-    let mut caps = ROWS[0].1;
-    let late = u32::from(planted(Wrong::CapsOneDayLate));
-    for (first, row) in ROWS {
-        if first + late <= day {
-            caps = row;
-        }
+/// What the search for a day gives: its caps, and how many rows it read.
+#[derive(Clone, Copy, PartialEq, Eq, Debug)]
+pub struct Search {
+    pub caps: Caps,
+    pub read: u64,
+}
+
+/// Passes over rows from the last one back, until one has begun. Days before
+/// the first row have no caps; they occur in unsound accounts only and get the
+/// first row, all rows read, which is then never used.
+pub fn search(day: u64) -> Search {
+    let late = u64::from(planted(Wrong::CapsOneDayLate));
+    let begun = |(first, _): &(u32, Caps)| u64::from(*first) + late <= day;
+    let newest_first = ROWS.iter().rev();
+    let last = ROWS.len() - 1;
+    let mut passed = newest_first.take_while(|row| !begun(row)).count().min(last);
+    if planted(Wrong::FirstRowNeverRead) {
+        passed = passed.min(last - 1);
     }
-    caps
+    let mut row = last - passed;
+    let mut read = passed + 1;
+    if planted(Wrong::RowAfter) {
+        row = (row + 1).min(last);
+    }
+    if planted(Wrong::RowsCountedFromZero) {
+        read = passed;
+    }
+    if planted(Wrong::RowsReadFromTheFirst) {
+        read = row + 1;
+    }
+    Search {
+        caps: ROWS[row].1,
+        read: read as u64,
+    }
+}
+
+/// The caps of a day.
+pub fn caps_on(day: u32) -> Caps {
+    search(u64::from(day)).caps
 }

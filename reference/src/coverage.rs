@@ -1,6 +1,6 @@
 //! Which events the random trips reached, counted by trips.
 
-use crate::caps::caps_on;
+use crate::caps::{caps_on, search};
 use crate::meter::{Account, Answer};
 use crate::plan::{BUNDLE, UNLIMITED};
 use crate::services::{window, DayCount, Log, State, Window, LOG_DAYS, SHORT_DAYS};
@@ -39,9 +39,18 @@ const EDGES_OF_15: [&str; 3] = [
     "zone days half of those on, of 15",
 ];
 
+const ROWS_READ: [&str; 6] = [
+    "surcharge, 1 row of caps read",
+    "surcharge, 2 rows of caps read",
+    "surcharge, 3 rows of caps read",
+    "surcharge, 4 rows of caps read",
+    "surcharge, 5 rows of caps read",
+    "surcharge, 6 rows of caps read",
+];
+
 /// Every event that a set of random trips must reach. Refusal 0 cannot arise
 /// from a list, and 1 and 2 are those of files.
-pub const EVENTS: [&str; 80] = [
+pub const EVENTS: [&str; 86] = [
     "refusal 3",
     "refusal 4",
     "refusal 5",
@@ -106,6 +115,12 @@ pub const EVENTS: [&str; 80] = [
     "V and L crossed in a record",
     "priced and surcharged kB",
     "cap change in mid-trip",
+    ROWS_READ[0],
+    ROWS_READ[1],
+    ROWS_READ[2],
+    ROWS_READ[3],
+    ROWS_READ[4],
+    ROWS_READ[5],
     "month turn of a prepaid plan with R over 0",
     "month turn of a bundle with H over 0",
     "bundle closing as the cap falls",
@@ -291,6 +306,10 @@ impl TripEvents {
         let surcharged = zone && state == State::Surcharged;
         let cost = old.credit - now.credit;
         self.hit("use while surcharged", surcharged);
+        let rows = search(u64::from(old.day)).read as usize;
+        if let Some(event) = ROWS_READ.get(rows.wrapping_sub(1)) {
+            self.hit(event, now.extra > old.extra);
+        }
         self.hit("free use with credit 0", old.credit == 0);
         self.hit("cost equal to credit", cost > 0 && cost == old.credit);
         if kind != Kind::Data {

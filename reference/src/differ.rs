@@ -22,6 +22,11 @@ const AFFORD_EVERY: u64 = 10;
 const PAIRS_EVERY: u64 = 20;
 /// Files up to this length are also asked for with a list too short.
 const SMALL: usize = 256;
+/// The caps of every day up to this one are compared: the last day that an
+/// account can reach, and some more.
+pub const LAST_DAY: u64 = 4000;
+/// Of the larger numbers, so many random ones.
+const LARGE_DAYS: u64 = 4000;
 
 /// Where the meters disagree, or where demand 3 fails.
 #[derive(Clone, Debug)]
@@ -64,6 +69,8 @@ pub struct Differ {
     pub files: u64,
     /// Writes by both meters: of what was read, and random ones.
     pub writes: u64,
+    /// Days whose caps and rows read were compared.
+    pub days: u64,
     /// Calls replayed by the other meter, those before an Afford included.
     pub calls: u64,
     pub longest: usize,
@@ -78,6 +85,7 @@ impl Differ {
             trips: 0,
             files: 0,
             writes: 0,
+            days: 0,
             calls: 0,
             longest: 0,
             times: Times::default(),
@@ -135,6 +143,30 @@ impl Differ {
         let differs = |what| Mismatch::other(format!("{what} ({})", case.outline()), Vec::new());
         self.both_write(&case, &mut events).map_err(differs)?;
         self.coverage.add(&events);
+        Ok(())
+    }
+
+    /// The caps of every day from 0 on, and how many rows were read for them;
+    /// then those of numbers that are no account's day: the same days with a
+    /// bit more above the lowest 32, the powers of 2 with their neighbours,
+    /// and random ones.
+    pub fn days(&mut self, seed: u64) -> Result<(), Box<Mismatch>> {
+        let mut rng = Rng::new(seed ^ 0xDA75_0000);
+        let near = |shift: u32| [(1 << shift) - 1, 1 << shift, (1 << shift) + 1];
+        let all = (0..=LAST_DAY)
+            .chain((0..=LAST_DAY).map(|day| day + (1 << 32)))
+            .chain((0..64).flat_map(near))
+            .chain([u64::MAX])
+            .chain((0..LARGE_DAYS).map(|_| rng.word()));
+        for day in all {
+            let ours = (REFERENCE.search)(day);
+            let theirs = (self.other.search)(day);
+            self.days += 1;
+            if ours != theirs {
+                let what = format!("of day {day} the search gave {theirs:?}, not {ours:?}");
+                return Err(Mismatch::other(what, Vec::new()));
+            }
+        }
         Ok(())
     }
 

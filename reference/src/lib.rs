@@ -1,8 +1,8 @@
 //! A second implementation of the roaming meter of document 01, with the
-//! requests of document 02 that are built (1/13, off days), written from the
-//! papers and, where they leave a point open, from the readings of
-//! docs/DECISIONS.md. It serves as the other side of a differential test and
-//! as a baseline for measurements.
+//! requests of document 02 that are built (1/13, off days; 2/13, the search for
+//! caps), written from the papers and, where they leave a point open, from the
+//! readings of docs/DECISIONS.md. It serves as the other side of a differential
+//! test and as a baseline for measurements.
 //!
 //! Programs: `refstatement` prints a statement, `selfcheck` holds the meter
 //! against the book, `differ` holds the proved meter against this one, `bench`

@@ -31,6 +31,14 @@ pub enum Wrong {
     MonthlyUseKept,
     /// Each row of caps begins a day late.
     CapsOneDayLate,
+    /// The search for caps stops one row early.
+    FirstRowNeverRead,
+    /// The caps are those of the row after the one that has begun.
+    RowAfter,
+    /// The rows that the search read are counted from 0.
+    RowsCountedFromZero,
+    /// The rows are read from the first one on, and so counted.
+    RowsReadFromTheFirst,
     /// One kB more than V is included.
     OneMoreThanVolume,
     /// The statement leaves refused calls out.
@@ -48,7 +56,7 @@ pub enum Wrong {
 }
 
 impl Wrong {
-    pub const ALL: [Wrong; 19] = [
+    pub const ALL: [Wrong; 23] = [
         Wrong::RoundsEachRecord,
         Wrong::LimitFromTopUp,
         Wrong::SurchargesTwice,
@@ -61,6 +69,10 @@ impl Wrong {
         Wrong::TwiceForgotten,
         Wrong::MonthlyUseKept,
         Wrong::CapsOneDayLate,
+        Wrong::FirstRowNeverRead,
+        Wrong::RowAfter,
+        Wrong::RowsCountedFromZero,
+        Wrong::RowsReadFromTheFirst,
         Wrong::OneMoreThanVolume,
         Wrong::RefusedNotCounted,
         Wrong::SumNotChecked,

@@ -1,6 +1,7 @@
 //! The proved meter, linked as a static library. A slice passes as its
 //! pointer, then its length, an array as its pointer.
 
+use crate::caps::Search;
 use crate::sides::{Found, Side};
 use crate::terms::Kind;
 
@@ -19,6 +20,7 @@ extern "C" {
     fn meter_find_number(file: *const u8, file_len: usize, kind: u32) -> u64;
     fn meter_find_length(file: *const u8, file_len: usize, kind: u32) -> usize;
     fn meter_find_sum(file: *const u8, file_len: usize, kind: u32) -> u32;
+    fn meter_caps(day: u64, out: *mut u64) -> u64;
 }
 
 /// The proved meter.
@@ -27,6 +29,7 @@ pub const SIDE: Side = Side {
     write,
     find,
     afford,
+    search,
 };
 
 pub fn statement(file: &[u8], out: &mut [u64]) -> u64 {
@@ -65,4 +68,12 @@ pub fn find(file: &[u8], kind: u32) -> Found {
             sum: meter_find_sum(bytes, len, kind),
         }
     }
+}
+
+pub fn search(day: u64) -> Search {
+    // A place that is not filled in shows: no cap is as large.
+    let mut caps = [u64::MAX; 4];
+    // SAFETY: the list has the four places that are filled in.
+    let read = unsafe { meter_caps(day, caps.as_mut_ptr()) };
+    Search { caps, read }
 }

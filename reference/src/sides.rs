@@ -1,6 +1,7 @@
 //! The two sides of the comparison: calls in the form in which the proved
 //! meter exports them.
 
+use crate::caps::{self, Search};
 use crate::meter::{Account, Answer};
 use crate::plan::{Plan, UNLIMITED};
 use crate::statement::{figures_of, run};
@@ -41,6 +42,8 @@ pub struct Side {
     pub find: fn(&[u8], u32) -> Found,
     /// Afford of a kind after the file's calls, asked that many times.
     pub afford: fn(&[u8], Kind, u64) -> u64,
+    /// The caps of any day, and how many rows were read for them.
+    pub search: fn(u64) -> Search,
 }
 
 /// This crate's meter.
@@ -49,6 +52,7 @@ pub const REFERENCE: Side = Side {
     write,
     find,
     afford,
+    search: caps::search,
 };
 
 /// The proved meter, if the crate was built with it.

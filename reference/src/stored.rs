@@ -39,7 +39,7 @@ const FERRY_CALLS: [Words; 6] = [
 ];
 
 /// The cases that the program `statement` is run on, too.
-const OF_STATEMENT: [&str; 15] = [
+const OF_STATEMENT: [&str; 16] = [
     "ferry",
     "empty",
     "eleven_bytes",
@@ -52,6 +52,7 @@ const OF_STATEMENT: [&str; 15] = [
     "start_180",
     "limit_none",
     "off_days_cleared",
+    "row_of_1826",
     "largest",
     "largest_and_a_byte",
     "largest_and_a_word",
@@ -65,6 +66,7 @@ pub fn cases() -> Vec<StoredCase> {
     all.extend(trips());
     all.extend(service_trips());
     all.extend(off_day_trips());
+    all.extend(row_trips());
     all.extend(large_files());
     all
 }
@@ -338,6 +340,46 @@ fn off_day_trips() -> Vec<StoredCase> {
                 (home, 1),
                 (home, 1),
             ]),
+        ),
+    ]
+}
+
+/// A gigabyte in the zone on the day before a row of caps begins, and one on
+/// its first day. L is 0, as the fee is, so that both bear the surcharge.
+fn row_trip(first: u32) -> Vec<u8> {
+    let gb = (2, 1_048_576);
+    let calls = [(6, 100_000), ZONE, gb, NEXT_DAY, gb];
+    file([UNLIMITED, first - 1, 0, 0, 0, 0, 0], &calls)
+}
+
+/// Document 02, 2/13: every row of caps is found, on both sides of its first
+/// day.
+fn row_trips() -> Vec<StoredCase> {
+    vec![
+        case(
+            "row_of_365",
+            "1 GB past L on day 364 and one on day 365: 20,000 and 18,000 points",
+            row_trip(365),
+        ),
+        case(
+            "row_of_730",
+            "the same on days 729 and 730: 18,000 and 15,500",
+            row_trip(730),
+        ),
+        case(
+            "row_of_1096",
+            "the same on days 1095 and 1096: 15,500 and 13,000",
+            row_trip(1096),
+        ),
+        case(
+            "row_of_1461",
+            "the same on days 1460 and 1461: 13,000 and 11,000",
+            row_trip(1461),
+        ),
+        case(
+            "row_of_1826",
+            "the same on days 1825 and 1826: 11,000 and 10,000",
+            row_trip(1826),
         ),
     ]
 }

@@ -1,8 +1,9 @@
 //! The comparison itself: the meter agrees with itself, and meters that go
 //! wrong in one point are found.
 
+use reference::caps::{self, Search};
 use reference::coverage::TripEvents;
-use reference::differ::{Differ, Mismatch};
+use reference::differ::{Differ, Mismatch, LAST_DAY};
 use reference::rng::Rng;
 use reference::sides::{Side, REFERENCE, WRITE_REFUSED};
 use reference::terms::Kind;
@@ -19,6 +20,15 @@ fn compared(other: Side) -> Result<Differ, Box<Mismatch>> {
         differ.write(seed)?;
     }
     Ok(differ)
+}
+
+/// What the comparison of the days says of a wrong search.
+fn found_in_days(search: fn(u64) -> Search) -> String {
+    let other = Side {
+        search,
+        ..REFERENCE
+    };
+    Differ::new(other).days(1).expect_err("a wrong search").what
 }
 
 fn found(other: Side) -> String {
@@ -183,4 +193,36 @@ fn an_afford_that_gives_up_early_is_found() {
         ..REFERENCE
     };
     assert!(found(other).starts_with("Afford of "));
+}
+
+#[test]
+fn every_day_is_compared() {
+    let mut differ = Differ::new(REFERENCE);
+    differ.days(1).expect("the same search");
+    assert!(differ.days > 2 * LAST_DAY);
+}
+
+#[test]
+fn a_wrong_cap_on_one_day_is_found() {
+    let search = |day| match day {
+        3833 => caps::search(1825),
+        _ => caps::search(day),
+    };
+    assert!(found_in_days(search).starts_with("of day 3833 "));
+}
+
+#[test]
+fn rows_counted_from_0_are_found() {
+    let search = |day| {
+        let Search { caps, read } = caps::search(day);
+        let read = read - 1;
+        Search { caps, read }
+    };
+    assert!(found_in_days(search).starts_with("of day 0 "));
+}
+
+#[test]
+fn a_day_cut_to_32_bits_is_found() {
+    let search = |day| caps::search(day & 0xFFFF_FFFF);
+    assert!(found_in_days(search).starts_with("of day 4294967296 "));
 }

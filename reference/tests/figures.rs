@@ -4,7 +4,7 @@
 mod common;
 use common::*;
 use reference::calendar::{is_first_day, month_of, FIRST_DAYS};
-use reference::caps::caps_on;
+use reference::caps::{caps_on, search, ROWS};
 use reference::charges::home_points;
 use reference::plan::prepaid_limit;
 use reference::services::{prevalent, Day, Log};
@@ -103,6 +103,40 @@ fn caps_of_every_row() {
     assert_eq!(caps_on(1096), [13_000, 190, 20, 30]);
     assert_eq!(caps_on(1826), [10_000, 190, 20, 30]);
     assert_eq!(caps_on(3833), [10_000, 190, 20, 30]);
+}
+
+/// 02, 2/13: the row of the day and the newer ones are read; all of them on a
+/// day before the first row.
+#[test]
+fn rows_read_from_the_last_one_back() {
+    let read = |day| search(day).read;
+    let figures = [
+        (181, 6),
+        (364, 6),
+        (365, 5),
+        (1825, 2),
+        (1826, 1),
+        (3833, 1),
+    ];
+    for (day, rows) in figures {
+        assert_eq!(read(day), rows, "day {day}");
+    }
+    assert_eq!(
+        [729, 730, 1095, 1096, 1460, 1461].map(read),
+        [5, 4, 4, 3, 3, 2]
+    );
+    assert_eq!([0, 180].map(read), [6, 6]);
+    assert_eq!([4000, u64::MAX].map(read), [1, 1]);
+}
+
+/// Every day has the cap that reading all rows from the first on gives.
+#[test]
+fn caps_of_every_day_are_as_before() {
+    for day in 0..=4000 {
+        let mut begun = ROWS.iter().filter(|(first, _)| *first <= day);
+        let (_, caps) = begun.next_back().unwrap_or(&ROWS[0]);
+        assert_eq!(caps_on(day), *caps, "day {day}");
+    }
 }
 
 #[test]

@@ -115,6 +115,21 @@ fn charges_of_the_services() {
     assert_eq!(money("data_spared"), [9_989_870, 10_130, 0, 0]);
 }
 
+/// Two GB, one under each of two rows, of 100,000 points; no home price.
+#[test]
+fn surcharges_on_both_sides_of_each_row() {
+    let gigabytes = 2 * 1_048_576;
+    for (name, extra) in [
+        ("row_of_365", 20_000 + 18_000),
+        ("row_of_730", 18_000 + 15_500),
+        ("row_of_1096", 15_500 + 13_000),
+        ("row_of_1461", 13_000 + 11_000),
+        ("row_of_1826", 11_000 + 10_000),
+    ] {
+        assert_eq!(money(name), [100_000 - extra, 0, extra, gigabytes]);
+    }
+}
+
 #[test]
 fn the_largest_file_takes_all_services_through_all_states() {
     let trip = read(&named("largest").bytes).unwrap();

@@ -16,11 +16,12 @@ use Rattle.tariff.specs.declared.Allowance.{Allowance}
 use Rattle.tariff.specs.declared.Allowance.the-variants.{NoLimit, Kilobytes}
 use Rattle.tariff.specs.Tests.{all, between, verdict-of, is-accepted}
 use Rattle.tariff.specs.Units.{_⊕_, only, of-kind, AtMost}
-use Rattle.tariff.specs.Caps.{caps-on}
+use Rattle.tariff.specs.Caps.{built-in, caps-on}
 use Rattle.tariff.specs.Charges.{home-charges-of, surcharges-of}
 use Rattle.tariff.specs.Plan.{is-prepaid, open-bundle, plan-verdict, credit-allowance, plan-allowance, plan-reasons, plan-in-range, unused-empty, prices-in-range, terms-in-range}
 use Rattle.tariff.proofs.Tests.{all-nil, all-cons, first-fails, rest-accepts, not-false}
-use Rattle.tariff.proofs.Caps.{caps-bound, basis-grows}
+use Rattle.tariff.proofs.Caps.{basis-grows}
+use Rattle.tariff.proofs.Tables.{caps-bound}
 use Rattle.tariff.proofs.Plans.{plan-ranged, opens-tells, credit-bounded, fee-bounded}
 use Rattle.tariff.proofs.Charges.{counted-bounded}
 use Rattle.presence.specs.declared.Location.the-variants.{At}
@@ -124,7 +125,7 @@ sound-register a q s =
         billed-ok = f .billed-ok;
         surcharged-ok = f .surcharged-ok;
         basis-ok = f .basis-ok;
-        allowance-ok = either-fits e _ (a .state .allowance) (credit-fits (a .state .credit) (caps-on (a .state .day) .kb) (omega (arith, s .money .balance, f .paid-ok))) (f .allowance-ok);
+        allowance-ok = either-fits e _ (a .state .allowance) (credit-fits (a .state .credit) (caps-on built-in (a .state .day) .kb) (omega (arith, s .money .balance, f .paid-ok))) (f .allowance-ok);
         logged-ok = f .logged-ok;
         internet-ok = f .internet-ok;
         calls-ok = f .calls-ok;
@@ -151,7 +152,7 @@ sound-top-up a n h s =
         billed-ok = f .billed-ok;
         surcharged-ok = f .surcharged-ok;
         basis-ok = f .basis-ok;
-        allowance-ok = either-fits e _ (a .state .allowance) (credit-fits (a .state .credit + n) (caps-on (a .state .day) .kb) (omega (arith, s .money .balance))) (f .allowance-ok);
+        allowance-ok = either-fits e _ (a .state .allowance) (credit-fits (a .state .credit + n) (caps-on built-in (a .state .day) .kb) (omega (arith, s .money .balance))) (f .allowance-ok);
         logged-ok = f .logged-ok;
         internet-ok = f .internet-ok;
         calls-ok = f .calls-ok;
@@ -179,7 +180,7 @@ sound-next a h s =
         billed-ok = f .billed-ok;
         surcharged-ok = f .surcharged-ok;
         basis-ok = f .basis-ok;
-        allowance-ok = either-fits e _ (a .state .allowance) (plan-fits (a .state .plan) (caps-on (a .state .day + 1) .kb) (plan-of-state (a .state) f .money)) (f .allowance-ok);
+        allowance-ok = either-fits e _ (a .state .allowance) (plan-fits (a .state .plan) (caps-on built-in (a .state .day + 1) .kb) (plan-of-state (a .state) f .money)) (f .allowance-ok);
         logged-ok = omega (arith, f .logged-ok, f .started);
         internet-ok = next-fits _ _ _ (a .state .services .internet);
         calls-ok = next-fits _ _ _ (a .state .services .calls);
@@ -218,7 +219,7 @@ sound-use a k n l h s =
         monthly-ok = omega (arith, b, f .monthly-ok, counted-bounded (a .state .plan .form) (billable (a .state .place) u .kb));
         billed-ok = unfold billed-after in omega (arith, f .billed-ok, b, billed-of-bounded (a .state .plan) (a .state .monthly) (billable (a .state .place) u));
         surcharged-ok = omega (arith, f .surcharged-ok, newly-bounded (a .state) u);
-        basis-ok = unfold basis-after in basis-grows 20000 (a .state .basis) (caps-on (a .state .day)) (a .state .surcharged) (newly-surcharged (a .state) u) (f .basis-ok) (caps-bound (a .state .day) .most);
+        basis-ok = unfold basis-after in basis-grows 20000 (a .state .basis) (caps-on built-in (a .state .day)) (a .state .surcharged) (newly-surcharged (a .state) u) (f .basis-ok) (caps-bound (a .state .day) .most);
         allowance-ok = f .allowance-ok;
         logged-ok = f .logged-ok;
         internet-ok = f .internet-ok;
@@ -278,7 +279,7 @@ sound-opened p e =
         billed-ok = omega arith;
         surcharged-ok = omega arith;
         basis-ok = omega arith;
-        allowance-ok = plan-fits p (caps-on (p .start) .kb) (plan-ranged p (o .ranges) .money);
+        allowance-ok = plan-fits p (caps-on built-in (p .start) .kb) (plan-ranged p (o .ranges) .money);
         logged-ok = omega arith;
         internet-ok = refl;
         calls-ok = refl;

@@ -7,7 +7,7 @@ use Rattle.tariff.specs.declared.Place.the-variants.{Home, Zone, Elsewhere}
 use Rattle.tariff.specs.declared.Plan.{Plan}
 use Rattle.tariff.specs.declared.Allowance.{Allowance}
 use Rattle.tariff.specs.Units.{_⊕_, _⊗_, AtMost}
-use Rattle.tariff.specs.Caps.{caps-on}
+use Rattle.tariff.specs.Caps.{built-in, caps-on}
 use Rattle.tariff.proofs.Charges.{billed-grows, after-allowance-grows, home-charges-grow, surcharges-grow}
 use Rattle.presence.specs.declared.Location.{Location}
 use Rattle.presence.specs.declared.Location.the-variants.{Nowhere, At}
@@ -68,10 +68,10 @@ module _ (a : State) (u v : Units) (h : AtMost u v) where
       surcharges-grow _ _
       (omega (
         arith,
-        mul-le-mul-left (caps-on (a .day) .kb) (p .kb),
-        mul-le-mul-left (caps-on (a .day) .outgoing) (p .outgoing),
-        mul-le-mul-left (caps-on (a .day) .incoming) (p .incoming),
-        mul-le-mul-left (caps-on (a .day) .sms) (p .sms),
+        mul-le-mul-left (caps-on built-in (a .day) .kb) (p .kb),
+        mul-le-mul-left (caps-on built-in (a .day) .outgoing) (p .outgoing),
+        mul-le-mul-left (caps-on built-in (a .day) .incoming) (p .incoming),
+        mul-le-mul-left (caps-on built-in (a .day) .sms) (p .sms),
       ))
 
   pub cost-grows : cost a u ≤ cost a v

@@ -1,3 +1,4 @@
+pub mod Caps
 pub mod Finder
 pub mod Numbers
 pub mod Writer

@@ -1,4 +1,5 @@
 // The proved meter with a C interface, for the comparison with the second implementation.
+pub mod caps;
 pub mod finder;
 pub mod writer;
 

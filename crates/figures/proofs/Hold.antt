@@ -1,7 +1,7 @@
 -- The figures hold, by computation. Assumes nothing.
 use mathlib.Core.Path.{refl}
 use Rattle.tariff.specs.Tests.{all}
-use Rattle.tariff.specs.Caps.{caps-on, caps-from}
+use Rattle.tariff.specs.Caps.{table-of, built-in, row-at, first-rows, rows-of, caps-from, caps-on, rows-read, search-of}
 use Rattle.tariff.specs.Plan.{open-bundle, credit-allowance, plan-allowance}
 use Rattle.tariff.specs.Charges.{home-charges-of}
 use Rattle.presence.specs.Day.{zone-day, on-day, counts-as}
@@ -9,5 +9,5 @@ use Rattle.presence.specs.Window.{sum-days, prevalent, prevalent-long, prevalen
 use Rattle.figures.specs.Figures.{figures, FiguresHold}
 
 pub figures-hold : FiguresHold
-unfolding all figures caps-on caps-from open-bundle credit-allowance plan-allowance home-charges-of zone-day on-day counts-as sum-days prevalent prevalent-long prevalent-short
-figures-hold = record { seventeen = refl; hold = refl }
+unfolding all figures caps-on caps-from rows-of first-rows row-at built-in table-of rows-read search-of open-bundle credit-allowance plan-allowance home-charges-of zone-day on-day counts-as sum-days prevalent prevalent-long prevalent-short
+figures-hold = record { twenty-three = refl; hold = refl }

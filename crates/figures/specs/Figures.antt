@@ -1,4 +1,4 @@
--- 01, "Figures": the eleven marked figures, and six of 02, 1/13, as one table of tests over the definitions that the contracts cite. Assumes nothing.
+-- 01, "Figures": the eleven marked figures, six of 02, 1/13, and six of 02, 2/13, as one table of tests over the definitions that the contracts cite. Assumes nothing.
 use Prim.Native.Nat.{ℕ}
 use mathlib.Core.Path.{_≡_}
 use mathlib.Core.Bool.{Bool, true, false, not}
@@ -14,7 +14,7 @@ use Rattle.tariff.specs.declared.Allowance.{Allowance}
 use Rattle.tariff.specs.declared.Allowance.the-variants.{NoLimit, Kilobytes}
 use Rattle.tariff.specs.Units.{each, only, zero-units}
 use Rattle.tariff.specs.declared.Kind.the-variants.{Data}
-use Rattle.tariff.specs.Caps.{caps-on}
+use Rattle.tariff.specs.Caps.{built-in, caps-on, search-of}
 use Rattle.tariff.specs.Plan.{open-bundle, credit-allowance, plan-allowance}
 use Rattle.tariff.specs.Charges.{home-charges-of}
 use Rattle.presence.specs.declared.Day.{Day}
@@ -65,8 +65,8 @@ figures =
     ∷ not (prevalent-long DataService 123 (replicate 61 (zone-kb 1000) ++ replicate 62 (home-kb 0)))
     ∷ prevalent-long DataService 123 (replicate 62 (zone-kb 1) ++ replicate 61 (home-kb 1))
     -- "Day 1460 has data cap 13000, 1461 has 11000"
-    ∷ eqb (caps-on 1460 .kb) 13000
-    ∷ eqb (caps-on 1461 .kb) 11000
+    ∷ eqb (caps-on built-in 1460 .kb) 13000
+    ∷ eqb (caps-on built-in 1461 .kb) 11000
     -- 02, 1/13, over 123 days, with more zone kB than others: 1 zone day and 122 off days are prevalent; 1 zone day, 1 home day and 121 off days aren't; 123 off days
     -- aren't
     ∷ prevalent-long DataService 123 (zone-kb 1 ∷ replicate 122 (off-kb 1))
@@ -76,9 +76,16 @@ figures =
     ∷ prevalent-short DataService 15 (zone-kb 1 ∷ replicate 14 (off-kb 1))
     ∷ not (prevalent-short DataService 15 (zone-kb 1 ∷ home-kb 0 ∷ replicate 13 (off-kb 1)))
     ∷ not (prevalent-short DataService 15 (replicate 15 (off-kb 1)))
+    -- 02, 2/13, the rows read of the built-in six: all on the first row's days, 1 from the last row's first day on
+    ∷ eqb (search-of built-in 181 .read) 6
+    ∷ eqb (search-of built-in 364 .read) 6
+    ∷ eqb (search-of built-in 365 .read) 5
+    ∷ eqb (search-of built-in 1825 .read) 2
+    ∷ eqb (search-of built-in 1826 .read) 1
+    ∷ eqb (search-of built-in 3833 .read) 1
     ∷ []
 
 -- 01, "Questions to put to a promise": each of the figures holds of the definitions, all in one statement
 pub record FiguresHold : Type 0 where
-  pub seventeen : length figures ≡ 17
+  pub twenty-three : length figures ≡ 23
   pub hold : all figures ≡ true

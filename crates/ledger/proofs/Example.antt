@@ -10,7 +10,7 @@ use Rattle.tariff.specs.declared.Kind.the-variants.{Data}
 use Rattle.tariff.specs.declared.Place.the-variants.{Home}
 use Rattle.tariff.specs.Units.{zero-units}
 use Rattle.tariff.specs.Tests.{all, verdict-of, is-accepted}
-use Rattle.tariff.specs.Caps.{caps-on, caps-from}
+use Rattle.tariff.specs.Caps.{table-of, built-in, row-at, first-rows, rows-of, caps-from, caps-on}
 use Rattle.tariff.specs.Plan.{plan-verdict, plan-reasons, plan-in-range, unused-empty, prices-in-range, terms-in-range, plan-allowance, open-bundle}
 use Rattle.tariff.specs.Charges.{after-first, billed-kb, after-allowance, home-charges-of, surcharges-of}
 use Rattle.presence.specs.Day.{mark-day, add-day}
@@ -80,7 +80,7 @@ sound-here = sound-after start (Register Home) sound-start first
 
 -- a kB at home is free under the plan
 free-here : is-accepted (verdict-of (use-reasons (here .state) Data 1)) ≡ true
-unfolding verdict-of use-reasons cost home-after extra-after billed-after basis-after newly-surcharged billable roaming billed-of surcharged-units surcharged-of billed-kb after-allowance after-first home-charges-of surcharges-of after register-at registered opened opened-state enters plan-allowance open-bundle caps-on caps-from
+unfolding verdict-of use-reasons cost home-after extra-after billed-after basis-after newly-surcharged billable roaming billed-of surcharged-units surcharged-of billed-kb after-allowance after-first home-charges-of surcharges-of after register-at registered opened opened-state enters plan-allowance open-bundle caps-on caps-from rows-of first-rows row-at built-in table-of
 free-here = refl
 
 -- registering again at home leaves the account as it is

@@ -16,7 +16,7 @@ use Rattle.tariff.specs.declared.Plan.{Plan}
 use Rattle.tariff.specs.declared.Allowance.{Allowance}
 use Rattle.tariff.specs.declared.Allowance.the-variants.{NoLimit, Kilobytes}
 use Rattle.tariff.specs.Units.{zero-units, _⊕_, _⊗_}
-use Rattle.tariff.specs.Caps.{caps-on}
+use Rattle.tariff.specs.Caps.{built-in, caps-on}
 use Rattle.tariff.specs.Plan.{is-prepaid}
 use Rattle.tariff.specs.Charges.{after-first, billed-kb, counted-kb, after-allowance}
 use Rattle.presence.specs.declared.Location.{Location}
@@ -132,8 +132,8 @@ module _ (i : Entry) (is : List Entry) (e : units-of (i .call) ≡ zero-units) w
   pub basis-quiet : (p : Plan) → journal-basis p (i ∷ is) ≡ journal-basis p is
   unfolding journal-basis
   basis-quiet p =
-      ap (λ (x : Units). journal-basis p is ⊕ caps-on (i .day) ⊗ x) (ap (surcharged-units _ _ _) zone-none ∙ surcharged-none _ _ _)
-      ∙ ap (λ (x : Units). journal-basis p is ⊕ x) (⊗-zero (caps-on (i .day))) ∙ ⊕-zero (journal-basis p is)
+      ap (λ (x : Units). journal-basis p is ⊕ caps-on built-in (i .day) ⊗ x) (ap (surcharged-units _ _ _) zone-none ∙ surcharged-none _ _ _)
+      ∙ ap (λ (x : Units). journal-basis p is ⊕ x) (⊗-zero (caps-on built-in (i .day))) ∙ ⊕-zero (journal-basis p is)
 
   pub monthly-quiet : (p : Plan) (d : ℕ) → monthly-kb p d (i ∷ is) ≡ monthly-kb p d is
   unfolding monthly-kb

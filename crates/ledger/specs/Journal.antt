@@ -14,7 +14,7 @@ use Rattle.tariff.specs.declared.Form.the-variants.{Prepaid}
 use Rattle.tariff.specs.declared.Plan.{Plan}
 use Rattle.tariff.specs.declared.Allowance.{Allowance}
 use Rattle.tariff.specs.Units.{zero-units, _⊕_, _⊗_}
-use Rattle.tariff.specs.Caps.{caps-on}
+use Rattle.tariff.specs.Caps.{built-in, caps-on}
 use Rattle.tariff.specs.Plan.{is-prepaid, credit-allowance, plan-allowance}
 use Rattle.tariff.specs.Charges.{counted-kb, home-charges-of, surcharges-of}
 use Rattle.presence.specs.declared.Location.{Location}
@@ -222,18 +222,18 @@ journal-services s (suc k) es = services-after (min 123 (suc k)) (last-days (day
 unfoldable pub new-allowance : Plan → Entry → List Entry → Allowance → Units → Allowance
 new-allowance p e es old basis =
     cond (sets-allowance (p .form) (last-place es) (e .call))
-    (credit-allowance (paid-in (e ∷ es) - (journal-home p (e ∷ es) + surcharges-of basis)) (caps-on (e .day) .kb))
-    (cond (changes-month p (e .day) (e .call)) (plan-allowance p (caps-on (suc (e .day)) .kb)) old)
+    (credit-allowance (paid-in (e ∷ es) - (journal-home p (e ∷ es) + surcharges-of basis)) (caps-on built-in (e .day) .kb))
+    (cond (changes-month p (e .day) (e .call)) (plan-allowance p (caps-on built-in (suc (e .day)) .kb)) old)
 
 -- L after the entries, and the sums of cap × surcharged units of each use, "by the rules of Use"
 unfoldable mutual
   pub journal-allowance : Plan → List Entry → Allowance
-  journal-allowance p [] = plan-allowance p (caps-on (p .start) .kb)
+  journal-allowance p [] = plan-allowance p (caps-on built-in (p .start) .kb)
   journal-allowance p (e ∷ es) = new-allowance p e es (journal-allowance p es) (journal-basis p es)
 
   pub journal-basis : Plan → List Entry → Units
   journal-basis p [] = zero-units
-  journal-basis p (e ∷ es) = journal-basis p es ⊕ caps-on (e .day) ⊗ surcharged-units
+  journal-basis p (e ∷ es) = journal-basis p es ⊕ caps-on built-in (e .day) ⊗ surcharged-units
       (journal-services (p .start) (e .day - p .start) es)
       (journal-allowance p es)
       (journal-roamed p (e .day) es)

@@ -8,7 +8,7 @@ use Rattle.tariff.specs.declared.Place.the-variants.{Home, Zone, Elsewhere}
 use Rattle.tariff.specs.declared.Plan.{Plan}
 use Rattle.tariff.specs.declared.Allowance.{Allowance}
 use Rattle.tariff.specs.Units.{_⊕_, _⊗_}
-use Rattle.tariff.specs.Caps.{caps-on}
+use Rattle.tariff.specs.Caps.{built-in, caps-on}
 use Rattle.tariff.specs.Charges.{counted-kb, home-charges-of, surcharges-of}
 use Rattle.tariff.proofs.Sums.{⊕-assoc, ⊗-⊕, at-most-sum}
 use Rattle.tariff.proofs.Charges.{counted-adds, billed-adds, after-allowance-adds, home-charges-grow, surcharges-grow}
@@ -83,7 +83,7 @@ module _ (a : State) (u c v d : Units) where
   unfolding basis-after spent
   basis-add =
       ⊕-assoc (a .basis) _ _ ∙ ap (λ (x : Units). a .basis ⊕ x)
-      (⊗-⊕ (caps-on (a .day)) (newly-surcharged a c) (newly-surcharged (spent a u c) d) ∙ ap (λ (x : Units). caps-on (a .day) ⊗ x) surcharged-add)
+      (⊗-⊕ (caps-on built-in (a .day)) (newly-surcharged a c) (newly-surcharged (spent a u c) d) ∙ ap (λ (x : Units). caps-on built-in (a .day) ⊗ x) surcharged-add)
 
   home-add : home-after (spent a u c) d ≡ home-after a (c ⊕ d)
   unfolding home-after spent

@@ -6,9 +6,9 @@ use native.Mathlib.Omega.{arith}
 use Rattle.tariff.specs.declared.Units.{Units}
 use Rattle.tariff.specs.declared.Place.the-variants.{Home, Zone, Elsewhere}
 use Rattle.tariff.specs.Units.{each, _⊗_, AtMost, Adds, Multiplies}
-use Rattle.tariff.specs.Caps.{caps-on}
+use Rattle.tariff.specs.Caps.{built-in, caps-on}
 use Rattle.tariff.specs.Charges.{counted-kb, PriceFits, BasisFits}
-use Rattle.tariff.proofs.Caps.{caps-bound}
+use Rattle.tariff.proofs.Tables.{caps-bound}
 use Rattle.tariff.proofs.Charges.{counted-bounded, home-charges-bounded, surcharges-bounded}
 use Rattle.presence.specs.declared.Location.{Location}
 use Rattle.presence.specs.declared.Location.the-variants.{Nowhere, At}
@@ -36,16 +36,16 @@ basis-in : (a : State) → Figures a → AtMost (a .basis) (each 200000000000000
 basis-in a f = omega (arith, f .basis-ok, f .surcharged-ok, f .lifetime-ok)
 
 module _ (a : State) (u : Units) (r : Ready a u) where
-  share : AtMost (caps-on (a .day) ⊗ newly-surcharged a u) (each 20000000000000 20000000000000 20000000000000 20000000000000)
-  share = products (caps-on (a .day)) (newly-surcharged a u) (caps-bound (a .day) .most) (few-newly a u (r .few))
+  share : AtMost (caps-on built-in (a .day) ⊗ newly-surcharged a u) (each 20000000000000 20000000000000 20000000000000 20000000000000)
+  share = products (caps-on built-in (a .day)) (newly-surcharged a u) (caps-bound (a .day) .most) (few-newly a u (r .few))
 
   pub billed-sum : Adds (a .billed) (billed-of (a .plan) (a .monthly) (billable (a .place) u))
   billed-sum = let f = figures-tell a (r .figures) in omega (arith, r .room, billed-in a u, f .billed-ok)
 
-  pub basis-product : Multiplies (caps-on (a .day)) (newly-surcharged a u)
+  pub basis-product : Multiplies (caps-on built-in (a .day)) (newly-surcharged a u)
   basis-product = omega (arith, share)
 
-  pub basis-sum : Adds (a .basis) (caps-on (a .day) ⊗ newly-surcharged a u)
+  pub basis-sum : Adds (a .basis) (caps-on built-in (a .day) ⊗ newly-surcharged a u)
   basis-sum = omega (arith, basis-in a (figures-tell a (r .figures)), share)
 
   pub price-fits : PriceFits (a .plan) (billed-after a u)

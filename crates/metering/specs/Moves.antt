@@ -8,7 +8,7 @@ use Rattle.tariff.specs.declared.Form.{Form}
 use Rattle.tariff.specs.declared.Plan.{Plan}
 use Rattle.tariff.specs.declared.Allowance.{Allowance}
 use Rattle.tariff.specs.Units.{zero-units}
-use Rattle.tariff.specs.Caps.{caps-on}
+use Rattle.tariff.specs.Caps.{built-in, caps-on}
 use Rattle.tariff.specs.Plan.{is-prepaid, credit-allowance, plan-allowance}
 use Rattle.presence.specs.declared.Location.{Location}
 use Rattle.presence.specs.declared.Location.the-variants.{Nowhere, At}
@@ -34,7 +34,7 @@ opened-state p = record {
   basis = zero-units;
   monthly = 0;
   roamed = 0;
-  allowance = plan-allowance p (caps-on (p .start) .kb);
+  allowance = plan-allowance p (caps-on built-in (p .start) .kb);
   today = empty-day;
   logged = 0;
   services = record { internet = Clear; calls = Clear; messages = Clear };
@@ -60,7 +60,7 @@ registered a p = record {
   basis = a .basis;
   monthly = a .monthly;
   roamed = cond (enters (a .plan .form) (a .place) p) 0 (a .roamed);
-  allowance = cond (enters (a .plan .form) (a .place) p) (credit-allowance (a .credit) (caps-on (a .day) .kb)) (a .allowance);
+  allowance = cond (enters (a .plan .form) (a .place) p) (credit-allowance (a .credit) (caps-on built-in (a .day) .kb)) (a .allowance);
   today = mark-day (At p) (a .today);
   logged = a .logged;
   services = a .services;
@@ -86,7 +86,7 @@ topped a n = record {
   basis = a .basis;
   monthly = a .monthly;
   roamed = cond (renews (a .plan .form) (a .place)) 0 (a .roamed);
-  allowance = cond (renews (a .plan .form) (a .place)) (credit-allowance (a .credit + n) (caps-on (a .day) .kb)) (a .allowance);
+  allowance = cond (renews (a .plan .form) (a .place)) (credit-allowance (a .credit + n) (caps-on built-in (a .day) .kb)) (a .allowance);
   today = a .today;
   logged = a .logged;
   services = a .services;
@@ -112,7 +112,7 @@ next-state-of a ds = record {
   basis = a .basis;
   monthly = cond (turns-month (a .plan) (a .day + 1)) 0 (a .monthly);
   roamed = cond (turns-month (a .plan) (a .day + 1)) 0 (a .roamed);
-  allowance = cond (turns-month (a .plan) (a .day + 1)) (plan-allowance (a .plan) (caps-on (a .day + 1) .kb)) (a .allowance);
+  allowance = cond (turns-month (a .plan) (a .day + 1)) (plan-allowance (a .plan) (caps-on built-in (a .day + 1) .kb)) (a .allowance);
   today = empty-day;
   logged = min 123 (a .logged + 1);
   services = services-after (min 123 (a .logged + 1)) ds (a .services);

@@ -10,7 +10,7 @@ use Rattle.tariff.specs.declared.Plan.{Plan}
 use Rattle.tariff.specs.declared.Allowance.{Allowance}
 use Rattle.tariff.specs.declared.Allowance.the-variants.{NoLimit, Kilobytes}
 use Rattle.tariff.specs.Units.{zero-units, _⊕_, _⊗_, of-kind}
-use Rattle.tariff.specs.Caps.{caps-on}
+use Rattle.tariff.specs.Caps.{built-in, caps-on}
 use Rattle.tariff.specs.Charges.{billed-kb, counted-kb, after-allowance, home-charges-of, surcharges-of}
 use Rattle.presence.specs.declared.Location.{Location}
 use Rattle.presence.specs.declared.Location.the-variants.{Nowhere, At}
@@ -64,7 +64,7 @@ newly-surcharged a c = surcharged-units (a .services) (a .allowance) (a .roamed)
 
 -- "sums of cap × surcharged units" after it: "cap × units is added up over the records"
 unfoldable pub basis-after : State → Units → Units
-basis-after a c = a .basis ⊕ caps-on (a .day) ⊗ newly-surcharged a c
+basis-after a c = a .basis ⊕ caps-on built-in (a .day) ⊗ newly-surcharged a c
 
 -- home charges "over the account's life" after it
 unfoldable pub home-after : State → Units → ℕ

@@ -18,7 +18,7 @@ ghost use Prim.Native.Nat.{ℕ, _+_, _-_, _*_, _≤_, _<_, min};
 ghost use lib.Dec.{leb, ltb, eqb};
 ghost use Rattle.tariff.specs.Tests.{between, is-accepted};
 ghost use Rattle.tariff.specs.Units.{each, zero-units, _⊗_, only, fits, AtMost};
-ghost use Rattle.tariff.specs.Caps.{caps-on};
+ghost use Rattle.tariff.specs.Caps.{built-in, caps-on};
 ghost use Rattle.tariff.specs.Plan.{plan-verdict, credit-allowance};
 ghost use Rattle.presence.specs.Log.{days-of};
 ghost use Rattle.metering.specs.Use.{billable, roaming, billed-of, surcharged-of, surcharged-units, spent, notice-of, charge-of};
@@ -436,7 +436,7 @@ pub fn use_of(a: State, k: Kind, n: u64) -> StateUsed
 // The allowance of a prepaid credit on a day.
 fn allowance_on(credit: u64, day: u64) -> Allowance
     requires { ⌜ credit ≤ 1000000000 ⌝ }
-    ensures { λ r. ⌜ r ≡ credit-allowance credit (caps-on day .kb) ⌝ }
+    ensures { λ r. ⌜ r ≡ credit-allowance credit (caps-on built-in day .kb) ⌝ }
 {
     let caps = tariff::caps_of(day);
     tariff::allowance_from(credit, caps.kb)

@@ -1,5 +1,6 @@
 // The published worked examples of the sources, through the functions of the meter. A line that it prints starts with the example's number, or that of a
-// marked figure of 01; comments name source and place. The file `stdout` was written by hand from the published figures. Lek are read as points.
+// marked figure of 01, or with a day, where it tells the rows read (02, 2/13); comments name source and place. The file `stdout` was written by hand from the
+// published figures. Lek are read as points.
 mod bundles; // bundles.rt: open bundles, their limits and charges
 mod lines; // lines.rt: what is printed
 mod prepaid; // prepaid.rt: limits and charges of a credit
@@ -20,6 +21,26 @@ fn caps_and_figures() {
     lines::text(b"\n");
 }
 
+// 02, 2/13: how many rows the search reads on a day, and the data cap that it finds.
+fn search_line(day: u64) {
+    let found = tariff::find_caps(day);
+    let caps = found.caps;
+    lines::number(b"day ", day);
+    lines::number(b" rows ", found.read);
+    lines::number(b" cap ", caps.kb);
+    lines::text(b"\n");
+}
+
+// The first and the last day of rows of the table, by 01 and by 02's rule of counting.
+fn rows_read() {
+    search_line(181);
+    search_line(364);
+    search_line(365);
+    search_line(1825);
+    search_line(1826);
+    search_line(3833);
+}
+
 fn main() {
     bundles::published_in_004();
     bundles::examples_1_to_3();
@@ -32,6 +53,7 @@ fn main() {
     prepaid::example_11();
     prepaid::illustrations();
     caps_and_figures();
+    rows_read();
     windows::of_123_days();
     windows::of_15_days();
     windows::with_off_days();

@@ -1,5 +1,6 @@
 pub mod Tests
 pub mod Sums
 pub mod Caps
+pub mod Tables
 pub mod Plans
 pub mod Charges

@@ -1,5 +1,7 @@
 pub mod Tests
 pub mod Units
 pub mod Caps
+pub mod Tables
 pub mod Plan
 pub mod Charges
+pub mod Claims

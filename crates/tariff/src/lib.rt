@@ -1,11 +1,14 @@
-// Units and caps, and the plan: document 01, "Units and caps" and "Plan", with the sums that its section on the account works out from them.
+// Units and caps, and the plan: document 01, "Units and caps" and "Plan", with the sums that its section on the account works out from them;
+// and 02, 2/13, the search for the caps of a day.
+pub mod claims;
+
 ghost use mathlib.Core.Path.{_≡_};
-ghost use mathlib.Core.Bool.{Bool, true, false, cond, _&&_};
+ghost use mathlib.Core.Bool.{true, false, _&&_};
 ghost use Prim.Native.Nat.{ℕ, _+_, _-_, _*_, _/_, _≤_, _<_};
-ghost use lib.Dec.{leb, ltb, eqb};
+ghost use lib.Dec.{ltb, eqb};
 ghost use Rattle.tariff.specs.Tests.{between};
 ghost use Rattle.tariff.specs.Units.{_⊕_, _⊗_, only, of-kind, fits, no-units, Adds, Multiplies};
-ghost use Rattle.tariff.specs.Caps.{caps-on, caps-from};
+ghost use Rattle.tariff.specs.Caps.{number, row-at, built-in, caps-on, rows-read, search-of, Searchable};
 ghost use Rattle.tariff.specs.Plan.{
   is-prepaid,
   prices-in-range,
@@ -54,6 +57,18 @@ pub struct Row {
     pub caps: Units,
 }
 
+// Up to eight rows of five numbers: first day, and caps per GB, outgoing minute, incoming minute and SMS; 0 past the rows.
+pub struct Table {
+    pub count: u64,
+    pub numbers: [u32; 40],
+}
+
+// The caps of a day, and how many rows were read to find them.
+pub struct Found {
+    pub caps: Units,
+    pub read: u64,
+}
+
 pub enum Form {
     Prepaid,
     Bundle,
@@ -99,61 +114,55 @@ pub enum PlanAnswer {
     Declined(u64),
 }
 
-const ROWS: [Row; 6] = [
-    Row {
-        first: 181,
-        caps: Units {
-            kb: 20000,
-            outgoing: 220,
-            incoming: 55,
-            sms: 40,
-        },
-    },
-    Row {
-        first: 365,
-        caps: Units {
-            kb: 18000,
-            outgoing: 220,
-            incoming: 40,
-            sms: 40,
-        },
-    },
-    Row {
-        first: 730,
-        caps: Units {
-            kb: 15500,
-            outgoing: 220,
-            incoming: 20,
-            sms: 40,
-        },
-    },
-    Row {
-        first: 1096,
-        caps: Units {
-            kb: 13000,
-            outgoing: 190,
-            incoming: 20,
-            sms: 30,
-        },
-    },
-    Row {
-        first: 1461,
-        caps: Units {
-            kb: 11000,
-            outgoing: 190,
-            incoming: 20,
-            sms: 30,
-        },
-    },
-    Row {
-        first: 1826,
-        caps: Units {
-            kb: 10000,
-            outgoing: 190,
-            incoming: 20,
-            sms: 30,
-        },
-    },
+// The rows of document 01, and room for two more.
+const NUMBERS: [u32; 40] = [
+    // from day 181 on
+    181,
+    20000,
+    220,
+    55,
+    40,
+    // from day 365 on
+    365,
+    18000,
+    220,
+    40,
+    40,
+    // from day 730 on
+    730,
+    15500,
+    220,
+    20,
+    40,
+    // from day 1096 on
+    1096,
+    13000,
+    190,
+    20,
+    30,
+    // from day 1461 on
+    1461,
+    11000,
+    190,
+    20,
+    30,
+    // from day 1826 on
+    1826,
+    10000,
+    190,
+    20,
+    30,
+    // no more rows
+    0,
+    0,
+    0,
+    0,
+    0,
+    0,
+    0,
+    0,
+    0,
+    0,
 ];
 
 // n units of one kind.
@@ -240,29 +249,92 @@ pub fn times(rate: Units, u: Units) -> Units
     }
 }
 
-// The row's caps where it has begun by the day, else those found so far.
-fn begun(row: Row, found: Units, day: u64) -> Units
-    ensures { λ r. ⌜ r ≡ cond (leb (row .first) day) (row .caps) found ⌝ }
+// The built-in table.
+fn table_built_in() -> Table
+    ensures { λ r. ⌜ r ≡ built-in ⌝ }
 {
-    if row.first <= day {
-        return row.caps;
+    let numbers = NUMBERS;
+    Table {
+        count: 6,
+        numbers: numbers,
     }
-    found
 }
 
-// The caps of a day: those of the last row that has begun.
-pub fn caps_of(day: u64) -> Units
-    ensures { λ r. ⌜ r ≡ caps-on day ⌝ }
+fn wide(x: u32) -> u64
+    ensures { λ r. ⌜ r ≡ x ⌝ }
 {
-    let rows = ROWS;
-    let first = rows[0];
-    let mut found = first.caps;
-    let mut i: usize = 0;
-    while i < 6 {
-        found = begun(rows[i], found, day);
-        i += 1;
+    x as u64
+}
+
+// Number k of row i.
+fn number_at(xs: &[u32; 40], i: usize, k: usize) -> u64
+    requires { ⌜ (i < 8) × (k < 5) ⌝ }
+    ensures { λ r. ⌜ r ≡ number (now (xs .entry)) i k ⌝ }
+{
+    wide(xs[5 * i + k])
+}
+
+// Row i.
+fn row_at(xs: &[u32; 40], i: usize) -> Row
+    requires { ⌜ i < 8 ⌝ }
+    ensures { λ r. ⌜ r ≡ row-at (now (xs .entry)) i ⌝ }
+{
+    let first = number_at(xs, i, 0);
+    let kb = number_at(xs, i, 1);
+    let outgoing = number_at(xs, i, 2);
+    let incoming = number_at(xs, i, 3);
+    let sms = number_at(xs, i, 4);
+    Row {
+        first: first,
+        caps: Units {
+            kb: kb,
+            outgoing: outgoing,
+            incoming: incoming,
+            sms: sms,
+        },
     }
-    found
+}
+
+// How many of the rows are read for a day, from the last one back.
+fn rows_read(xs: &[u32; 40], count: usize, day: u64) -> usize
+    requires { ⌜ Searchable count ⌝ }
+    ensures { λ r. ⌜ r ≡ rows-read (now (xs .entry)) count day ⌝ }
+{
+    let mut read: usize = 1;
+    while (read < count) & (day < number_at(xs, count - read, 0)) {
+        read += 1;
+    }
+    read
+}
+
+// The caps of a day, and how many rows were read. The table is lent.
+fn search(xs: &[u32; 40], count: usize, day: u64) -> Found
+    requires { ⌜ Searchable count ⌝ }
+    ensures { λ r. ⌜ r ≡ search-of (record { count = count; numbers = now (xs .entry) }) day ⌝ }
+{
+    let read = rows_read(xs, count, day);
+    let row = row_at(xs, count - read);
+    let caps = row.caps;
+    Found {
+        caps: caps,
+        read: read as u64,
+    }
+}
+
+// The caps of a day by the built-in table, and how many rows were read. Any day will do.
+pub fn find_caps(day: u64) -> Found
+    ensures { λ r. ⌜ r ≡ search-of built-in day ⌝ }
+{
+    let t = table_built_in();
+    search(&t.numbers, t.count as usize, day)
+}
+
+// The caps of a day by the built-in table. Any day will do.
+pub fn caps_of(day: u64) -> Units
+    ensures { λ r. ⌜ r ≡ caps-on built-in day ⌝ }
+{
+    let found = find_caps(day);
+    found.caps
 }
 
 // Is the plan prepaid?

@@ -1,8 +1,9 @@
 //! bench: what the calls of the proved meter cost beside this crate's, in a
 //! table. The cost of a call is the difference between the statements of two
 //! files, one of which has some thousand more calls of that kind.
-//! bench --one KIND COUNT: one file with COUNT calls of a kind after 130 days,
-//! or COUNT times Afford, through the proved meter alone.
+//! bench --one KIND COUNT START: one file with COUNT calls of a kind after 130
+//! days from day START on, or COUNT times Afford then, or COUNT times the caps
+//! of day START, through the proved meter alone.
 
 use reference::plan::{Plan, PREPAID};
 use reference::sides::{proved, Side, REFERENCE};
@@ -21,6 +22,10 @@ const PROGRESS: Duration = Duration::from_secs(4);
 const MORE: usize = 1500;
 /// Day changes of the base file; the log is full from the 123rd on.
 const BASE_DAYS: usize = 130;
+/// The first day of a plan, with thousands of days after it.
+const EARLY: u32 = 181;
+/// What the search for the caps of a day is called on the command line.
+const CAPS: &str = "caps";
 
 /// Code and number of the trip file.
 type Words = (u32, u32);
@@ -80,12 +85,16 @@ fn main() -> ExitCode {
     let words: Vec<&str> = args.iter().map(String::as_str).collect();
     match words[..] {
         [] => tables(other),
-        ["--one", key, count] => {
+        ["--one", key, count, start] => {
             let row = ROWS.iter().find(|row| row.key == key);
-            let (Some(row), Ok(count)) = (row, count.parse()) else {
+            let (Ok(count), Ok(start)) = (count.parse(), start.parse()) else {
                 return usage();
             };
-            one(other, row, count);
+            match row {
+                Some(row) => one(other, row, count, start),
+                None if key == CAPS => searches(other, count, start),
+                None => return usage(),
+            }
         }
         _ => return usage(),
     }
@@ -95,7 +104,7 @@ fn main() -> ExitCode {
 fn usage() -> ExitCode {
     let keys: Vec<&str> = ROWS.iter().map(|row| row.key).collect();
     eprintln!(
-        "usage: bench, or bench --one KIND COUNT; KIND is one of {}",
+        "usage: bench, or bench --one KIND COUNT START; KIND is one of {}, {CAPS}",
         keys.join(", ")
     );
     ExitCode::from(2)
@@ -113,29 +122,35 @@ fn days(count: usize) -> Vec<Words> {
 }
 
 /// Days, the entry into the zone, then so many calls taken in turn.
-fn days_and_more(count: usize, calls: &[Words], more: usize) -> Vec<u8> {
+fn days_and_more(start: u32, count: usize, calls: &[Words], more: usize) -> Vec<u8> {
     let mut all = days(count);
     all.push((1, 1));
     all.extend(calls.iter().cycle().take(more));
-    file(&all)
+    file(start, &all)
 }
 
-/// The file of a prepaid plan, early enough for thousands of days.
-fn file(calls: &[Words]) -> Vec<u8> {
-    let plan = Plan::from_words([PREPAID, 181, 10_000, 60, 50, 0, 0]);
+/// The file of a prepaid plan.
+fn file(start: u32, calls: &[Words]) -> Vec<u8> {
+    let plan = Plan::from_words([PREPAID, start, 10_000, 60, 50, 0, 0]);
     let (codes, numbers): (Vec<u32>, Vec<u32>) = calls.iter().copied().unzip();
     let mut bytes = vec![0; BEFORE_CALLS + 8 * calls.len()];
     write(&plan, &codes, &numbers, &mut bytes).expect("the calls fit in a file");
     bytes
 }
 
-fn one(other: Side, row: &Row, count: usize) {
+fn one(other: Side, row: &Row, count: usize, start: u32) {
     if row.calls.is_empty() {
-        let bytes = days_and_more(BASE_DAYS, &[], 0);
+        let bytes = days_and_more(start, BASE_DAYS, &[], 0);
         black_box((other.afford)(&bytes, Kind::Data, count as u64));
     } else {
-        let bytes = days_and_more(BASE_DAYS, row.calls, count);
+        let bytes = days_and_more(start, BASE_DAYS, row.calls, count);
         black_box((other.statement)(&bytes, &mut [0; 10]));
+    }
+}
+
+fn searches(other: Side, count: usize, day: u32) {
+    for _ in 0..count {
+        black_box((other.search)(black_box(u64::from(day))));
     }
 }
 
@@ -174,7 +189,7 @@ impl Line {
     /// One call of a kind after so many days.
     fn call(name: String, days: usize, row: &Row) -> Line {
         let count = if row.calls.is_empty() { 0 } else { MORE };
-        let bytes = |count| days_and_more(days, row.calls, count);
+        let bytes = |count| days_and_more(EARLY, days, row.calls, count);
         let affords = |times| if row.calls.is_empty() { times } else { 0 };
         let work = Work {
             bytes: bytes(count),
@@ -196,7 +211,7 @@ impl Line {
     fn statement(calls: &[Words]) -> Line {
         Line {
             name: calls.len().to_string(),
-            work: Work::statement(file(calls)),
+            work: Work::statement(file(EARLY, calls)),
             base: None,
             divisor: calls.len(),
         }

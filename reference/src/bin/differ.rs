@@ -1,6 +1,7 @@
 //! differ [--seed S] [--trips N] [--damaged N] [--seconds T]: random trips,
 //! files sound and damaged, and as many random writes as files, through the
-//! proved meter and this crate's. Ends with 1 if they disagree, if demand 3
+//! proved meter and this crate's; then the caps of every day up to 4,000 and
+//! of larger numbers. Ends with 1 if they disagree, if demand 3
 //! fails or if a run of full size or of some seconds misses an event, and with
 //! 2 if the proved library is missing.
 
@@ -90,15 +91,16 @@ fn counts(differ: &Differ) -> String {
         trips,
         files,
         writes,
+        days,
         ..
     } = differ;
-    format!("{trips} trips, {files} files, {writes} writes")
+    format!("{trips} trips, {files} files, {writes} writes, {days} days")
 }
 
 /// Where a mismatch was found, its seed, and the mismatch.
 type Found = (String, u64, Box<Mismatch>);
 
-/// Trips and files in turn, one of each from a seed.
+/// Trips and files in turn, one of each from a seed; then the days.
 fn run(
     differ: &mut Differ,
     seed: u64,
@@ -129,7 +131,8 @@ fn run(
             eprintln!("differ: {}, {past} s", counts(differ));
         }
     }
-    Ok(())
+    let found = |mismatch| (format!("seed {seed}, days"), seed, mismatch);
+    differ.days(seed).map_err(found)
 }
 
 /// Shows a mismatch and saves its file, if it has one.

@@ -1,5 +1,5 @@
 -- `metering::allowance_on` meets its contract. Assumes nothing.
-use Rattle.tariff.proofs.Caps.{caps-bound}
+use Rattle.tariff.proofs.Tables.{caps-bound}
 use borrow.Author.Needs.{needs}
 use Rattle.metering.proofs.allowance_on.Statement.{statement}
 use Rattle.metering.proofs.allowance_on.Tie as tie

@@ -1,7 +1,7 @@
 -- `metering::next_from` meets its contract. Assumes nothing.
 use native.Mathlib.Omega.{arith}
 use Prim.Native.Nat.{_+_}
-use Rattle.tariff.proofs.Caps.{caps-bound}
+use Rattle.tariff.proofs.Tables.{caps-bound}
 use Rattle.metering.specs.Moves.{next-state-of, turns-month}
 use Rattle.metering.proofs.Soundness.{figures-tell, plan-of-state}
 use borrow.Author.Needs.{needs}

@@ -1,6 +1,6 @@
 -- `metering::opened_with` meets its contract. Assumes nothing.
 use native.Mathlib.Omega.{arith}
-use Rattle.tariff.proofs.Caps.{caps-bound}
+use Rattle.tariff.proofs.Tables.{caps-bound}
 use Rattle.metering.specs.Moves.{opened-state}
 use borrow.Author.Needs.{needs}
 use Rattle.metering.proofs.opened_with.Statement.{statement}

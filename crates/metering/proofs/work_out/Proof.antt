@@ -1,7 +1,7 @@
 -- `metering::work_out` meets its contract. Assumes nothing.
 use Rattle.tariff.specs.declared.Units.{Units}
 use Rattle.tariff.specs.Units.{_⊕_, _⊗_}
-use Rattle.tariff.specs.Caps.{caps-on}
+use Rattle.tariff.specs.Caps.{built-in, caps-on}
 use Rattle.metering.specs.Use.{billable, billed-of, surcharged-units, billed-after, newly-surcharged, basis-after, home-after, extra-after}
 use Rattle.metering.specs.Needs.{bill-of}
 use Rattle.metering.proofs.Billing.{billed-sum, basis-product, basis-sum, price-fits, basis-fits}
@@ -21,7 +21,7 @@ fresh-eq : (c : tie.After-surcharged-of) → c .surcharged-of .result ≡ newly-
 unfolding newly-surcharged
 fresh-eq c = c .surcharged-of .ensures ∙ ap (surcharged-units (c .before .before .before .before .before .before .before .args .a .services) (c .before .before .before .before .before .before .before .args .a .allowance) (c .before .before .before .before .before .before .before .args .a .roamed)) (c .before .before .before .roaming-of .ensures)
 
-times-eq : (c : tie.After-times) → c .times .result ≡ caps-on (c .before .before .before .before .before .before .before .before .before .args .a .day) ⊗ newly-surcharged (c .before .before .before .before .before .before .before .before .before .args .a) (c .before .before .before .before .before .before .before .before .before .args .c)
+times-eq : (c : tie.After-times) → c .times .result ≡ caps-on built-in (c .before .before .before .before .before .before .before .before .before .args .a .day) ⊗ newly-surcharged (c .before .before .before .before .before .before .before .before .before .args .a) (c .before .before .before .before .before .before .before .before .before .args .c)
 times-eq c = c .times .ensures ∙ ap₂ _⊗_ (c .before .caps-of .ensures) (fresh-eq (c .before .before))
 
 basis-eq : (c : tie.After-plus2) → c .plus2 .result ≡ basis-after (c .before .before .before .before .before .before .before .before .before .before .args .a) (c .before .before .before .before .before .before .before .before .before .before .args .c)

@@ -1,0 +1,27 @@
+// Claims about tables of caps and the search in them, stated in specs/Claims.antt.
+ghost use Rattle.tariff.specs.Claims.{RowsOfTable, SearchFindsCaps, RowsRead, RowsTellDays, RightTables};
+
+// Every list of rows has a table.
+pub fn rows_of_table()
+    ensures { λ _. ⌜ RowsOfTable ⌝ }
+{}
+
+// The search from the last row back finds the caps of every day, in every table.
+pub fn search_finds_caps()
+    ensures { λ _. ⌜ SearchFindsCaps ⌝ }
+{}
+
+// Where days rise, the search reads the row that has begun last and those after it; where none has begun, all.
+pub fn rows_read()
+    ensures { λ _. ⌜ RowsRead ⌝ }
+{}
+
+// What holds of the caps of every row holds of those of every day.
+pub fn rows_tell_days()
+    ensures { λ _. ⌜ RowsTellDays ⌝ }
+{}
+
+// What a right table tells; the built-in one is right.
+pub fn right_tables()
+    ensures { λ _. ⌜ RightTables ⌝ }
+{}
