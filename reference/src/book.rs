@@ -16,10 +16,12 @@ pub struct Item {
     pub place: Option<Place>,
 }
 
-/// What a use bears: priced and surcharged units, and the cap of its day.
+/// What a use bears: the units that it is charged as, those that bear the home
+/// price and the surcharge, and the cap of its day.
 #[derive(Clone, Copy, PartialEq, Eq, Debug)]
 pub struct Share {
     pub kind: Kind,
+    pub charged: u64,
     pub priced: u64,
     pub surcharged: u64,
     pub cap: u64,
@@ -118,6 +120,14 @@ impl Book {
     /// Units used over all items, of a kind.
     pub fn lifetime(&self, kind: Kind) -> u64 {
         self.items.iter().map(|item| units(item, kind)).sum()
+    }
+
+    /// Outgoing seconds as charged, over all items (02, 3/13).
+    pub fn charged_seconds(&self) -> u64 {
+        let uses = self.shares.iter().flatten();
+        uses.filter(|share| share.kind == Kind::Outgoing)
+            .map(|share| share.charged)
+            .sum()
     }
 
     /// Priced units, surcharged units and cap x surcharged units over all
@@ -220,12 +230,17 @@ impl Book {
         })
     }
 
-    /// What a use of n units would bear now, after all items.
+    /// What a use of n units would bear now, after all items. In the zone an
+    /// outgoing call shorter than half a minute bears as much as one of half a
+    /// minute (02, 3/13).
     pub fn share(&self, kind: Kind, n: u64) -> Share {
+        let short = n < 30 && kind == Kind::Outgoing && self.place == Some(Place::Zone);
+        let charged = if short { 30 } else { n };
         Share {
             kind,
-            priced: self.priced(kind, n),
-            surcharged: self.surcharged(kind, n),
+            charged,
+            priced: self.priced(kind, charged),
+            surcharged: self.surcharged(kind, charged),
             cap: caps_on(self.day)[kind as usize],
         }
     }
@@ -278,8 +293,12 @@ impl Book {
         if self.lifetime(kind) + n > 1_000_000_000_000 {
             return 5;
         }
+        let share = self.share(kind, n);
+        if kind == Kind::Outgoing && self.charged_seconds() + share.charged > 1_000_000_000_000 {
+            return 5;
+        }
         let mut shares = self.shares.clone();
-        shares.push(Some(self.share(kind, n)));
+        shares.push(Some(share));
         let (home, extra) = self.charges_over(&shares);
         if home + extra > self.paid_in() {
             6

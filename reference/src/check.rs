@@ -90,7 +90,9 @@ fn compare_kind(account: &Account, book: &Book, kind: Kind) -> Result<(), Failur
         account.surcharged[k],
         account.cap_sums[k],
     ];
-    let right = ours == book.borne(kind) && account.lifetime[k] == book.lifetime(kind);
+    let right = ours == book.borne(kind)
+        && account.lifetime[k] == book.lifetime(kind)
+        && account.charged == book.charged_seconds();
     demand(right, || format!("units of {kind:?}"))
 }
 
@@ -113,6 +115,7 @@ fn check_answer(
                     home: now.home - before.home,
                     extra: now.extra - before.extra,
                     surcharged: share.surcharged,
+                    charged: share.charged,
                     notice: grows && l.is_some_and(|l| r < l && r + n >= l),
                 }
         }
@@ -222,23 +225,27 @@ pub fn check_pairs(
     case: &Case,
     rng: &mut Rng,
     events: &mut TripEvents,
-) -> Result<[Vec<Call>; 2], Failure> {
+) -> Result<Vec<Vec<Call>>, Failure> {
     let first = matching::trace(case.plan, &case.calls);
     let rearranged = matching::rearranged(rng, &first);
     let same = matching::trace(case.plan, &rearranged);
-    demand(first.cuts == same.cuts && first.sums == same.sums, || {
-        "rearranged uses were refused".to_string()
-    })?;
+    demand(
+        first.cuts == same.cuts && first.stretches_agree(&same),
+        || "rearranged uses were refused".to_string(),
+    )?;
     demand(first.accounts == same.accounts, || {
         "rearranged uses: other accounts".to_string()
     })?;
-    events.pair(true, rearranged == case.calls);
-    let altered = matching::altered(rng, &case.calls);
-    let other = matching::trace(case.plan, &altered);
-    demand(first.cuts == other.cuts, || "altered cuts".to_string())?;
-    events.pair(first.sums == other.sums, altered == case.calls);
-    demand(first.matches(&other), || "altered uses".to_string())?;
-    Ok([rearranged, altered])
+    events.pair(&first, &same, rearranged == case.calls);
+    let mut lists = vec![rearranged, matching::altered(rng, &case.calls)];
+    lists.extend(matching::divided(rng, &case.calls));
+    for calls in &lists[1..] {
+        let other = matching::trace(case.plan, calls);
+        demand(first.cuts == other.cuts, || "altered cuts".to_string())?;
+        events.pair(&first, &other, *calls == case.calls);
+        demand(first.matches(&other), || "altered uses".to_string())?;
+    }
+    Ok(lists)
 }
 
 /// Reading a random file gives the number that it was made for, and finding

@@ -1,7 +1,9 @@
 //! Which events the random trips reached, counted by trips.
 
 use crate::caps::{caps_on, search};
-use crate::meter::{Account, Answer};
+use crate::charges::{extra_points, home_points};
+use crate::matching::Trace;
+use crate::meter::{charged_units, Account, Answer, LEAST_CHARGED, MAX_LIFETIME, MAX_UNITS};
 use crate::plan::{BUNDLE, UNLIMITED};
 use crate::services::{window, DayCount, Log, State, Window, LOG_DAYS, SHORT_DAYS};
 use crate::terms::{Call, Kind, Place, Service};
@@ -48,9 +50,31 @@ const ROWS_READ: [&str; 6] = [
     "surcharge, 6 rows of caps read",
 ];
 
+/// Outgoing records of 1, 29, 30 and 31 seconds, by place (02, 3/13).
+const RECORDS: [[&str; 4]; 3] = [
+    [
+        "1 outgoing second at home",
+        "29 outgoing seconds at home",
+        "30 outgoing seconds at home",
+        "31 outgoing seconds at home",
+    ],
+    [
+        "1 outgoing second in the zone",
+        "29 outgoing seconds in the zone",
+        "30 outgoing seconds in the zone",
+        "31 outgoing seconds in the zone",
+    ],
+    [
+        "1 outgoing second elsewhere",
+        "29 outgoing seconds elsewhere",
+        "30 outgoing seconds elsewhere",
+        "31 outgoing seconds elsewhere",
+    ],
+];
+
 /// Every event that a set of random trips must reach. Refusal 0 cannot arise
 /// from a list, and 1 and 2 are those of files.
-pub const EVENTS: [&str; 86] = [
+pub const EVENTS: [&str; 110] = [
     "refusal 3",
     "refusal 4",
     "refusal 5",
@@ -134,9 +158,33 @@ pub const EVENTS: [&str; 86] = [
     "afford 0",
     "afford the most",
     "afford refused, 3",
+    "outgoing zone record of under 30 seconds",
+    RECORDS[0][0],
+    RECORDS[0][1],
+    RECORDS[0][2],
+    RECORDS[0][3],
+    RECORDS[1][0],
+    RECORDS[1][1],
+    RECORDS[1][2],
+    RECORDS[1][3],
+    RECORDS[2][0],
+    RECORDS[2][1],
+    RECORDS[2][2],
+    RECORDS[2][3],
+    "zone record of under 30 seconds with a surcharge",
+    "zone record of under 30 seconds with home points",
+    "charged seconds at their limit, spoken ones below",
+    "refusal 5 by charged seconds alone",
+    "refusal 6 of a zone record affordable as spoken",
+    "afford 0 outgoing seconds in the zone",
+    "afford 30 outgoing seconds in the zone",
+    "afford over 30 outgoing seconds in the zone",
+    "afford limited by charged seconds alone",
     "empty list",
     "another list with the same stretches",
     "the same cuts with other stretches",
+    "the same units with other charged seconds",
+    "the same charged seconds with other units",
 ];
 
 /// An account without its log: what the events of a call need of the account
@@ -201,12 +249,25 @@ impl TripEvents {
         self.hit("empty list", true);
     }
 
-    /// A pair of lists with the same cuts: whether their stretches agree, and
-    /// whether the lists are the same.
-    pub fn pair(&mut self, stretches_agree: bool, lists_agree: bool) {
-        let same = stretches_agree && !lists_agree;
-        self.hit("another list with the same stretches", same);
-        self.hit("the same cuts with other stretches", !stretches_agree);
+    /// A pair of lists with the same cuts, and whether the lists are the same.
+    pub fn pair(&mut self, first: &Trace, other: &Trace, lists_agree: bool) {
+        let units = first.units == other.units;
+        let charged = first.charged == other.charged;
+        let both = units && charged;
+        self.hit("another list with the same stretches", both && !lists_agree);
+        self.hit("the same cuts with other stretches", !both);
+        self.hit(
+            "the same units with other charged seconds",
+            units && !charged,
+        );
+        let outgoing = |trace: &Trace| {
+            let seconds = trace.units.iter().map(|of| of[Kind::Outgoing as usize]);
+            seconds.collect::<Vec<u64>>()
+        };
+        self.hit(
+            "the same charged seconds with other units",
+            charged && outgoing(first) != outgoing(other),
+        );
     }
 
     /// The number that reading a file gave, 0 if it was read. Any other number
@@ -262,16 +323,51 @@ impl TripEvents {
     pub fn call(&mut self, before: &Account, call: Call, got: &Result<Answer, u32>, now: &Account) {
         match (got, call) {
             (Err(number), Call::Afford(_)) => self.hit("afford refused, 3", *number == 3),
-            (Err(number), _) => self.hit(REFUSALS[*number as usize], true),
+            (Err(number), _) => self.refused(before, call, *number),
             (Ok(_), Call::Use(kind, n)) => self.used(before, kind, n, got, now),
             (Ok(_), Call::Register(place)) => self.registered(before, place, now),
             (Ok(_), Call::TopUp(_)) => self.topped_up(before),
             (Ok(_), Call::NextDay) => self.next_day(before, now),
-            (Ok(answer), Call::Afford(_)) => {
-                self.hit("afford 0", *answer == Answer::Most(0));
-                self.hit("afford the most", *answer == Answer::Most(1_000_000_000));
-            }
+            (Ok(Answer::Most(n)), Call::Afford(kind)) => self.afforded(before, kind, *n),
+            (Ok(_), Call::Afford(_)) => {}
         }
+    }
+
+    /// A call other than Afford that was refused.
+    fn refused(&mut self, before: &Account, call: Call, number: u32) {
+        self.hit(REFUSALS[number as usize], true);
+        let (Call::Use(Kind::Outgoing, n), Some(place)) = (call, before.place) else {
+            return;
+        };
+        let by_charged = number == 5 && has_spoken_room(before, n);
+        self.hit("refusal 5 by charged seconds alone", by_charged);
+        let short = place == Place::Zone && n < LEAST_CHARGED;
+        let by_charged = number == 6 && short && can_pay(before, place, n);
+        self.hit(
+            "refusal 6 of a zone record affordable as spoken",
+            by_charged,
+        );
+    }
+
+    fn afforded(&mut self, account: &Account, kind: Kind, most: u64) {
+        self.hit("afford 0", most == 0);
+        self.hit("afford the most", most == MAX_UNITS);
+        let (Kind::Outgoing, Some(place)) = (kind, account.place) else {
+            return;
+        };
+        let zone = place == Place::Zone;
+        self.hit("afford 0 outgoing seconds in the zone", zone && most == 0);
+        self.hit("afford 30 outgoing seconds in the zone", zone && most == 30);
+        self.hit(
+            "afford over 30 outgoing seconds in the zone",
+            zone && most > 30,
+        );
+        let charged = charged_units(place, kind, most + 1);
+        let by_charged = most < MAX_UNITS
+            && has_spoken_room(account, most + 1)
+            && account.charged + charged > MAX_LIFETIME
+            && can_pay(account, place, charged);
+        self.hit("afford limited by charged seconds alone", by_charged);
     }
 
     fn registered(&mut self, before: &Account, place: Place, now: &Account) {
@@ -312,9 +408,41 @@ impl TripEvents {
         }
         self.hit("free use with credit 0", old.credit == 0);
         self.hit("cost equal to credit", cost > 0 && cost == old.credit);
-        if kind != Kind::Data {
-            return;
+        match kind {
+            Kind::Data => self.used_data(old, n, got, now),
+            Kind::Outgoing => self.called(old, n, now),
+            Kind::Incoming | Kind::Sms => {}
         }
+    }
+
+    /// An accepted outgoing record.
+    fn called(&mut self, old: &Account, n: u64, now: &Account) {
+        if let Some(place) = old.place {
+            let length = [1, 29, 30, 31].iter().position(|length| *length == n);
+            if let Some(length) = length {
+                self.hit(RECORDS[place as usize][length], true);
+            }
+        }
+        let short = old.place == Some(Place::Zone) && n < LEAST_CHARGED;
+        self.hit("outgoing zone record of under 30 seconds", short);
+        self.hit(
+            "zone record of under 30 seconds with a surcharge",
+            short && now.extra > old.extra,
+        );
+        self.hit(
+            "zone record of under 30 seconds with home points",
+            short && now.home > old.home,
+        );
+        self.hit(
+            "charged seconds at their limit, spoken ones below",
+            now.charged == MAX_LIFETIME && has_spoken_room(now, 1),
+        );
+    }
+
+    /// An accepted use of data.
+    fn used_data(&mut self, old: &Account, n: u64, got: &Result<Answer, u32>, now: &Account) {
+        let zone = old.place == Some(Place::Zone);
+        let surcharged = zone && old.states[Service::Data as usize] == State::Surcharged;
         let notice = matches!(got, Ok(Answer::Used { notice: true, .. }));
         self.hit("notice", notice);
         self.hit("notice while surcharged", notice && surcharged);
@@ -413,6 +541,25 @@ impl TripEvents {
         self.hit("cleared as a home day joined", cleared && units && joined);
         self.hit("123 off days", off == LOG_DAYS);
     }
+}
+
+/// Whether n more outgoing seconds keep refusal 5's limit as spoken.
+fn has_spoken_room(account: &Account, n: u64) -> bool {
+    account.lifetime[Kind::Outgoing as usize] + n <= MAX_LIFETIME
+}
+
+/// Whether the credit pays for so many more outgoing seconds at a place.
+fn can_pay(account: &Account, place: Place, seconds: u64) -> bool {
+    let k = Kind::Outgoing as usize;
+    let (mut priced, mut cap_sums) = (account.priced, account.cap_sums);
+    if place != Place::Elsewhere {
+        priced[k] += seconds;
+    }
+    if place == Place::Zone && account.states[Service::Calls as usize] == State::Surcharged {
+        cap_sums[k] += caps_on(account.day)[k] * seconds;
+    }
+    let due = home_points(&account.plan, &priced) + extra_points(&cap_sums);
+    due <= account.home + account.extra + account.credit
 }
 
 /// As many zone days as home days, and some.

@@ -11,14 +11,17 @@ use crate::rng::Rng;
 use crate::sides::{afford_answer, Side, REFERENCE};
 use crate::sides::{AFFORD_REFUSED, FILE_REFUSED, NO_ROOM, WRITE_REFUSED};
 use crate::statement::{figures, text, Figures};
-use crate::terms::{Call, Kind};
+use crate::terms::{Call, Kind, Place};
 use crate::tripfile::{self, Trip, BEFORE_CALLS, CALLS_KIND, PLAN_KIND};
 use crate::writes::WriteCase;
 use std::time::{Duration, Instant};
 
 /// Afford of each kind is compared at the end of every tenth trip or file.
 const AFFORD_EVERY: u64 = 10;
-/// Every twentieth trip is paired with two lists that have the same cuts.
+/// Afford of outgoing seconds is compared at the end of every trip or file that
+/// ends in the zone and has at most so many bytes.
+const AFFORD_UP_TO: usize = 12_000;
+/// Every twentieth trip is paired with two or three lists that have the same cuts.
 const PAIRS_EVERY: u64 = 20;
 /// Files up to this length are also asked for with a list too short.
 const SMALL: usize = 256;
@@ -40,6 +43,21 @@ pub struct Mismatch {
 }
 
 impl Mismatch {
+    /// One of a file with the statements of both meters.
+    fn of_statements(
+        what: String,
+        file: &[u8],
+        ours: &Result<Figures, u32>,
+        theirs: &Result<Figures, u32>,
+    ) -> Box<Mismatch> {
+        Box::new(Mismatch {
+            what,
+            file: file.to_vec(),
+            ours: text(ours),
+            theirs: text(theirs),
+        })
+    }
+
     /// One in which no statements differ.
     fn other(what: String, file: Vec<u8>) -> Box<Mismatch> {
         Box::new(Mismatch {
@@ -181,36 +199,28 @@ impl Differ {
         let begun = Instant::now();
         let read = tripfile::read(file);
         let calls = read.as_ref().map_or(0, |trip| trip.calls.len());
-        let ran = match &read {
-            Ok(trip) => observed(trip, events),
+        let ran = read.as_ref().map_err(|number| *number);
+        let ran = ran.and_then(|trip| observed(trip, events));
+        let ours = match &ran {
+            Ok((account, refused)) => Ok(figures(account, *refused)),
             Err(number) => Err(*number),
         };
-        let ours = ran
-            .as_ref()
-            .map(|(account, refused)| figures(account, *refused))
-            .map_err(|number| *number);
         self.times.reference += begun.elapsed();
         self.calls += calls as u64;
         self.longest = self.longest.max(calls);
 
         let theirs = self.statement(file, &ours)?;
-        let differs = |what: String| {
-            Box::new(Mismatch {
-                what,
-                file: file.to_vec(),
-                ours: text(&ours),
-                theirs: text(&theirs),
-            })
-        };
+        let differs = |what: String| Mismatch::of_statements(what, file, &ours, &theirs);
         if ours != theirs {
             return Err(differs("the statements differ".to_string()));
         }
         if let Ok(trip) = &read {
             self.write_again(file, trip, rng, events).map_err(differs)?;
         }
-        if afford {
-            self.calls += 4 * calls as u64;
-            self.afford(file, &ran, rng, events).map_err(differs)?;
+        for kind in asked_kinds(file, afford, &ran) {
+            self.calls += calls as u64;
+            let asked = self.afford(file, &ran, *kind, rng, events);
+            asked.map_err(differs)?;
         }
         Ok(ours.err().unwrap_or(0))
     }
@@ -245,12 +255,12 @@ impl Differ {
         } else {
             return Ok(theirs);
         };
-        Err(Box::new(Mismatch {
-            what: wrong.to_string(),
-            file: file.to_vec(),
-            ours: text(ours),
-            theirs: text(&theirs),
-        }))
+        Err(Mismatch::of_statements(
+            wrong.to_string(),
+            file,
+            ours,
+            &theirs,
+        ))
     }
 
     /// A list with room for nine figures is declined and left as it is.
@@ -326,36 +336,36 @@ impl Differ {
         Ok((number, theirs))
     }
 
-    /// Afford of each kind after the file's calls.
+    /// Afford of a kind after the file's calls.
     fn afford(
         &mut self,
         file: &[u8],
         ran: &Result<(Account, usize), u32>,
+        kind: Kind,
         rng: &mut Rng,
         events: &mut TripEvents,
     ) -> Result<(), Failure> {
-        for kind in Kind::ALL {
-            let ours = match ran {
-                Ok((account, _)) => {
-                    let answer = afford_answer(account, kind);
-                    observe_afford(account, kind, answer, events);
-                    answer
-                }
-                Err(number) => FILE_REFUSED + u64::from(*number),
-            };
-            let times = rng.between(1, 3);
-            let begun = Instant::now();
-            let theirs = (self.other.afford)(file, kind, times);
-            self.times.other += begun.elapsed();
-            if ours != theirs {
-                return Err(format!("Afford of {kind:?} answered {theirs}, not {ours}"));
+        let ours = match ran {
+            Ok((account, _)) => {
+                let answer = afford_answer(account, kind);
+                observe_afford(account, kind, answer, events);
+                answer
             }
+            Err(number) => FILE_REFUSED + u64::from(*number),
+        };
+        let times = rng.between(1, 3);
+        let begun = Instant::now();
+        let theirs = (self.other.afford)(file, kind, times);
+        self.times.other += begun.elapsed();
+        if ours != theirs {
+            return Err(format!("Afford of {kind:?} answered {theirs}, not {ours}"));
         }
         Ok(())
     }
 
-    /// Demand 3 for a list, one with the same stretches and one with a use
-    /// altered; both others go through the comparison as well.
+    /// Demand 3 for a list, one with the same stretches, one with a use altered
+    /// and one with an outgoing zone record divided; the others go through the
+    /// comparison as well.
     fn pairs(
         &mut self,
         case: &Case,
@@ -396,6 +406,16 @@ fn observed(trip: &Trip, events: &mut TripEvents) -> Result<(Account, usize), u3
         events.call(&before, call, &got, &account);
     }
     Ok((account, refused))
+}
+
+/// The kinds that Afford is asked for at the end of a file.
+fn asked_kinds(file: &[u8], all: bool, ran: &Result<(Account, usize), u32>) -> &'static [Kind] {
+    let in_zone = |account: &Account| account.place == Some(Place::Zone);
+    match ran {
+        _ if all => &Kind::ALL,
+        Ok((account, _)) if in_zone(account) && file.len() <= AFFORD_UP_TO => &[Kind::Outgoing],
+        _ => &[],
+    }
 }
 
 fn observe_afford(account: &Account, kind: Kind, answer: u64, events: &mut TripEvents) {

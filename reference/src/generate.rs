@@ -1,13 +1,17 @@
 //! Random plans and lists of calls from a seed. The maker runs an account
 //! beside the list, so that it can aim at the edges of credit, V and L.
 
-use crate::caps::ROWS;
-use crate::meter::{Account, Answer};
+use crate::caps::{caps_on, ROWS};
+use crate::charges::{extra_points, home_points};
+use crate::meter::{Account, Answer, LEAST_CHARGED, MAX_LIFETIME, MAX_UNITS};
 use crate::plan::{Plan, BUNDLE, LAST_DAY, MAX_FEE, MAX_PRICE, MAX_VOLUME, PREPAID, UNLIMITED};
 use crate::rng::Rng;
 use crate::services::State;
-use crate::terms::{Call, Kind, Place, GB};
+use crate::terms::{Call, Kind, Place, Service, GB};
 use crate::tripfile::{write, BEFORE_CALLS, MAX_CALLS};
+
+/// Outgoing records about the half minute of 02, 3/13.
+const RECORDS: [u64; 4] = [1, LEAST_CHARGED - 1, LEAST_CHARGED, LEAST_CHARGED + 1];
 
 /// A plan that Open accepts and a list of calls.
 #[derive(Clone, PartialEq, Eq, Debug)]
@@ -42,8 +46,8 @@ pub fn case(seed: u64) -> Case {
 }
 
 /// The random trip of a seed, for large numbers of trips: nine of ten are
-/// short, half of the others are runs of over 300 days, and one of a thousand
-/// fills the largest file.
+/// short, half of the others are runs of over 300 days, eight of a thousand
+/// come to the limit of charged seconds, and one fills the largest file.
 pub fn trip(seed: u64) -> Case {
     let mut rng = Rng::new(seed);
     match rng.below(1000) {
@@ -52,10 +56,11 @@ pub fn trip(seed: u64) -> Case {
             let scenario = rng.between(45, 64);
             whole(rng, scenario)
         }
-        50..=99 => {
+        50..=91 => {
             let scenario = rng.below(100);
             whole(rng, scenario)
         }
+        92..=99 => whole(rng, MANY_SECONDS),
         _ => short(rng),
     }
 }
@@ -73,6 +78,9 @@ fn largest(mut rng: Rng) -> Case {
     maker.finish()
 }
 
+/// The scenario of `many_seconds`.
+const MANY_SECONDS: u64 = 95;
+
 /// A case of one of a hundred scenarios.
 fn whole(mut rng: Rng, scenario: u64) -> Case {
     let plan = match scenario {
@@ -89,7 +97,9 @@ fn whole(mut rng: Rng, scenario: u64) -> Case {
         45..=64 => maker.long(),
         65..=69 => maker.days(20),
         70..=84 => maker.edges(25),
-        85..=95 => maker.days(90),
+        85..=91 => maker.days(90),
+        92..=94 => maker.half_minutes(25),
+        MANY_SECONDS => maker.many_seconds(),
         96..=97 => maker.many_units(),
         _ => maker.many_top_ups(),
     }
@@ -110,6 +120,7 @@ fn short(mut rng: Rng) -> Case {
         30..=54 => maker.days(24),
         55..=59 => maker.days(20),
         60..=79 => maker.edges(8),
+        80..=87 => maker.half_minutes(8),
         _ => maker.days(40),
     }
     maker.finish()
@@ -197,6 +208,11 @@ fn usual_plan(rng: &mut Rng) -> Plan {
     }
 }
 
+/// Most units of a use in the zone and out of it, for the phases of a long run.
+/// Under the last pair short zone calls are much less than those at home as
+/// spoken, and more as charged.
+const SCALES: [(u64, u64); 5] = [(20, 200), (200, 200), (2000, 200), (1, 1), (5, 40)];
+
 impl Maker {
     /// The plan is one that Open accepts.
     fn new(rng: Rng, plan: Plan) -> Maker {
@@ -243,9 +259,12 @@ impl Maker {
         }
     }
 
-    /// Units of a use: usual ones, both sides of V, L and credit, and numbers
-    /// outside the range.
+    /// Units of a use: usual ones, both sides of V, L, credit and half a minute,
+    /// and numbers outside the range.
     fn units(&mut self, kind: Kind) -> u64 {
+        if kind == Kind::Outgoing && self.rng.chance(30) {
+            return self.rng.pick(&RECORDS);
+        }
         let account = &self.account;
         let near = self.rng.below(3);
         match self.rng.below(20) {
@@ -366,7 +385,7 @@ impl Maker {
             if left == 0 {
                 percent = self.rng.pick(&[95, 60, 50, 45, 10, 2]);
                 left = self.rng.between(10, 140);
-                scales = self.rng.pick(&[(20, 200), (200, 200), (2000, 200), (1, 1)]);
+                scales = self.rng.pick(&SCALES);
                 off = if rests {
                     self.rng.pick(&[0, 30, 60, 97, 100])
                 } else {
@@ -422,6 +441,74 @@ impl Maker {
         self.call(Call::Afford(kind));
         self.call(Call::Use(kind, 1));
         self.mixed(20);
+    }
+
+    /// Up to `most` times a credit that just pays for half a minute in the zone,
+    /// or is a point more or less, and short outgoing records.
+    fn half_minutes(&mut self, most: u64) {
+        for _ in 0..self.rng.between(1, most) {
+            let place = self.place();
+            self.call(Call::Register(place));
+            let cost = self.half_minute_cost();
+            let wanted = self.rng.between(cost.saturating_sub(1), cost + 1);
+            self.call(Call::TopUp(wanted.saturating_sub(self.account.credit)));
+            self.call(Call::Afford(Kind::Outgoing));
+            for _ in 0..self.rng.below(3) {
+                let n = self.rng.pick(&RECORDS);
+                self.call(Call::Use(Kind::Outgoing, n));
+            }
+            if self.rng.chance(20) {
+                self.call(Call::NextDay);
+            }
+        }
+    }
+
+    /// What half a minute of an outgoing call in the zone would cost now.
+    fn half_minute_cost(&self) -> u64 {
+        let account = &self.account;
+        let k = Kind::Outgoing as usize;
+        let (mut priced, mut cap_sums) = (account.priced, account.cap_sums);
+        priced[k] += LEAST_CHARGED;
+        if account.states[Service::Calls as usize] == State::Surcharged {
+            cap_sums[k] += caps_on(account.day)[k] * LEAST_CHARGED;
+        }
+        let sums = home_points(&account.plan, &priced) + extra_points(&cap_sums);
+        sums - account.home - account.extra
+    }
+
+    /// Outgoing seconds up to their limit, where they are free, with short
+    /// records before the last ones: charged seconds come to the limit first.
+    fn many_seconds(&mut self) {
+        let free = match self.account.plan.minute_price {
+            0 => self.rng.pick(&Place::ALL),
+            _ => Place::Elsewhere,
+        };
+        self.call(Call::TopUp(10_000_000));
+        self.call(Call::Register(free));
+        for _ in 0..999 {
+            self.call(Call::Use(Kind::Outgoing, MAX_UNITS));
+        }
+        let left = self.rng.between(1, 99);
+        self.call(Call::Use(Kind::Outgoing, MAX_UNITS - left));
+        for _ in 0..self.rng.between(2, 8) {
+            let place = self.place();
+            let n = self.rng.pick(&RECORDS);
+            self.near_the_limit(place, n);
+        }
+        if self.rng.chance(70) {
+            let room = MAX_LIFETIME.saturating_sub(self.account.charged);
+            self.near_the_limit(free, room + 1);
+            self.near_the_limit(free, room);
+        }
+        let place = self.place();
+        self.near_the_limit(place, 1);
+    }
+
+    /// Afford of outgoing seconds at a place, and a record there.
+    fn near_the_limit(&mut self, place: Place, n: u64) {
+        self.call(Call::Register(place));
+        self.call(Call::Afford(Kind::Outgoing));
+        self.call(Call::Use(Kind::Outgoing, n));
     }
 
     /// Paid in up to its limit.

@@ -1,6 +1,6 @@
 //! A second implementation of the roaming meter of document 01, with the
 //! requests of document 02 that are built (1/13, off days; 2/13, the search for
-//! caps), written from the papers and, where they leave a point open, from the
+//! caps; 3/13, the first half minute), written from the papers and, where they leave a point open, from the
 //! readings of docs/DECISIONS.md. It serves as the other side of a differential
 //! test and as a baseline for measurements.
 //!

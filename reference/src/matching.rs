@@ -1,18 +1,22 @@
 //! Demand 3 about pairs of lists: opened alike and with the same cuts, two
-//! lists have the same units in every stretch exactly when their accounts are
-//! equal just before each cut and at the end.
+//! lists have the same units and, by 02, 3/13, the same charged seconds in every
+//! stretch exactly when their accounts are equal just before each cut and at the
+//! end. What a record is charged as is worked out here anew.
 
 use crate::meter::{Account, MAX_UNITS};
 use crate::plan::Plan;
 use crate::rng::Rng;
-use crate::terms::{Call, Kind};
+use crate::terms::{Call, Kind, Place};
 
-/// A list that was run: its cuts, the units of each stretch by kind, and the
+/// A list that was run: its cuts; for each stretch the units by kind, the
+/// charged outgoing seconds and the outgoing records made in the zone; and the
 /// account just before each cut and at the end.
 #[derive(Clone, Debug)]
 pub struct Trace {
     pub cuts: Vec<Call>,
-    pub sums: Vec<[u64; 4]>,
+    pub units: Vec<[u64; 4]>,
+    pub charged: Vec<u64>,
+    pub zone_records: Vec<Vec<u64>>,
     pub accounts: Vec<Account>,
 }
 
@@ -21,22 +25,24 @@ pub fn trace(plan: Plan, calls: &[Call]) -> Trace {
     let mut account = Account::open(plan).expect("the plan keeps its ranges");
     let mut trace = Trace {
         cuts: Vec::new(),
-        sums: vec![[0; 4]],
+        units: Vec::new(),
+        charged: Vec::new(),
+        zone_records: Vec::new(),
         accounts: Vec::new(),
     };
+    trace.begin_stretch();
     for call in calls {
         let before = call.is_cut_call().then(|| account.clone());
         if account.apply(*call).is_err() {
             continue;
         }
         if let Call::Use(kind, n) = call {
-            let last = trace.sums.len() - 1;
-            trace.sums[last][*kind as usize] += n;
+            trace.add_use(account.place == Some(Place::Zone), *kind, *n);
         }
         if let Some(before) = before {
             trace.cuts.push(*call);
-            trace.sums.push([0; 4]);
             trace.accounts.push(before);
+            trace.begin_stretch();
         }
     }
     trace.accounts.push(account);
@@ -44,20 +50,51 @@ pub fn trace(plan: Plan, calls: &[Call]) -> Trace {
 }
 
 impl Trace {
+    fn begin_stretch(&mut self) {
+        self.units.push([0; 4]);
+        self.charged.push(0);
+        self.zone_records.push(Vec::new());
+    }
+
+    /// An accepted use in the last stretch.
+    fn add_use(&mut self, in_zone: bool, kind: Kind, n: u64) {
+        let last = self.units.len() - 1;
+        self.units[last][kind as usize] += n;
+        match (kind, in_zone) {
+            (Kind::Outgoing, true) => {
+                self.charged[last] += if n < 30 { 30 } else { n };
+                self.zone_records[last].push(n);
+            }
+            (Kind::Outgoing, false) => self.charged[last] += n,
+            _ => {}
+        }
+    }
+
+    /// Whether units and charged seconds agree in every stretch.
+    pub fn stretches_agree(&self, other: &Trace) -> bool {
+        self.units == other.units && self.charged == other.charged
+    }
+
     /// The claim about two lists; nothing is claimed of different cuts.
     pub fn matches(&self, other: &Trace) -> bool {
-        self.cuts != other.cuts || (self.sums == other.sums) == (self.accounts == other.accounts)
+        let accounts_agree = self.accounts == other.accounts;
+        self.cuts != other.cuts || self.stretches_agree(other) == accounts_agree
     }
 }
 
 /// Another list with the same cuts and stretches: uses are split and shuffled
-/// within each stretch, and calls that are no cuts are inserted.
+/// within each stretch, outgoing zone records so that their charged seconds
+/// stay, and calls that are no cuts are inserted.
 pub fn rearranged(rng: &mut Rng, trace: &Trace) -> Vec<Call> {
     let mut calls = Vec::new();
-    for (index, sums) in trace.sums.iter().enumerate() {
+    for (index, units) in trace.units.iter().enumerate() {
         let mut stretch = Vec::new();
         for kind in Kind::ALL {
-            let parts = split(rng, sums[kind as usize]);
+            let records = &trace.zone_records[index];
+            let parts = match kind {
+                Kind::Outgoing if !records.is_empty() => other_records(rng, records),
+                _ => split(rng, units[kind as usize]),
+            };
             stretch.extend(parts.into_iter().map(|n| Call::Use(kind, n)));
         }
         if rng.chance(20) {
@@ -83,6 +120,54 @@ fn split(rng: &mut Rng, total: u64) -> Vec<u64> {
         left -= part;
     }
     parts
+}
+
+/// Other outgoing zone records with the same sum and the same charged seconds:
+/// some of a minute or more become two that last half a minute at least, and
+/// of two that last half a minute at most one gives seconds to the other.
+fn other_records(rng: &mut Rng, records: &[u64]) -> Vec<u64> {
+    let mut parts = Vec::new();
+    for n in records.iter().copied() {
+        if n >= 60 && rng.chance(50) {
+            let first = rng.between(30, n - 30);
+            parts.extend([first, n - first]);
+        } else {
+            parts.push(n);
+        }
+    }
+    let short: Vec<usize> = (0..parts.len()).filter(|at| parts[*at] <= 30).collect();
+    for pair in short.chunks_exact(2) {
+        let both = parts[pair[0]] + parts[pair[1]];
+        let first = rng.between(both.saturating_sub(30).max(1), (both - 1).min(30));
+        (parts[pair[0]], parts[pair[1]]) = (first, both - first);
+    }
+    parts
+}
+
+/// The list with one outgoing zone record made into two, of which the first is
+/// under half a minute: as many seconds, and more charged ones. None where the
+/// list has no such record of two seconds or more.
+pub fn divided(rng: &mut Rng, calls: &[Call]) -> Option<Vec<Call>> {
+    let mut place = None;
+    let mut records = Vec::new();
+    for (at, call) in calls.iter().enumerate() {
+        match call {
+            Call::Register(next) => place = Some(*next),
+            Call::Use(Kind::Outgoing, n) if place == Some(Place::Zone) && *n >= 2 => {
+                records.push((at, *n));
+            }
+            _ => {}
+        }
+    }
+    if records.is_empty() {
+        return None;
+    }
+    let (at, n) = rng.pick(&records);
+    let first = rng.between(1, (n - 1).min(29));
+    let two = [first, n - first].map(|part| Call::Use(Kind::Outgoing, part));
+    let mut calls = calls.to_vec();
+    calls.splice(at..=at, two);
+    Some(calls)
 }
 
 fn shuffle(rng: &mut Rng, calls: &mut [Call]) {

@@ -21,6 +21,8 @@ pub const MAX_PAID_IN: u64 = 1_000_000_000;
 pub const MAX_LIMIT: u64 = 2_000_000_000_000_000;
 /// Soundness: points of cap for each surcharged unit.
 pub const MAX_CAP: u64 = 20_000;
+/// 02, 3/13: the least that an outgoing zone record is charged as, in seconds.
+pub const LEAST_CHARGED: u64 = 30;
 
 /// The fields listed under "Account and its calls". Arrays "of each kind" go
 /// by `Kind`, states by `Service`; the log is newest first.
@@ -34,6 +36,9 @@ pub struct Account {
     pub home: u64,
     pub extra: u64,
     pub lifetime: [u64; 4],
+    /// 02, 3/13: outgoing seconds as charged, over the account's life and at
+    /// every place; `lifetime` has them as spoken.
+    pub charged: u64,
     pub priced: [u64; 4],
     pub surcharged: [u64; 4],
     pub cap_sums: [u64; 4],
@@ -50,19 +55,22 @@ pub struct Account {
 pub enum Answer {
     /// Register, Top-up and Next day.
     Done,
-    /// Use: home and surcharge points taken, surcharged units, notice.
+    /// Use: home and surcharge points taken, surcharged units, what the record
+    /// was charged as, notice.
     Used {
         home: u64,
         extra: u64,
         surcharged: u64,
+        charged: u64,
         notice: bool,
     },
     /// Afford: the largest n for which Use is accepted, 0 if none.
     Most(u64),
 }
 
-/// What a use bears, and the life sums with it.
+/// What a use is charged as and bears, and the life sums with it.
 struct Charge {
+    units: u64,
     priced: u64,
     surcharged: u64,
     home: u64,
@@ -92,6 +100,7 @@ impl Account {
             home: 0,
             extra: 0,
             lifetime: [0; 4],
+            charged: 0,
             priced: [0; 4],
             surcharged: [0; 4],
             cap_sums: [0; 4],
@@ -125,15 +134,21 @@ impl Account {
     }
 
     /// Units of each kind against the lifetime units of that kind, and cap
-    /// sums against the surcharged units.
+    /// sums against the surcharged units. Of outgoing seconds, the charged ones
+    /// have a limit of their own and are what priced and surcharged ones are
+    /// held against (02, 3/13); how they compare with the spoken ones is no
+    /// matter of soundness.
     fn units_sound(&self) -> bool {
         let logged = self.logged_units();
         let data = self.lifetime[Kind::Data as usize];
+        let mut charged = self.lifetime;
+        charged[Kind::Outgoing as usize] = self.charged;
         let kind_sound = |k: usize| {
             self.lifetime[k] <= MAX_LIFETIME
-                && self.priced[k] <= self.lifetime[k]
-                && self.surcharged[k] <= self.lifetime[k]
-                && logged[k] <= self.lifetime[k]
+                && (charged[k] <= MAX_LIFETIME || planted(Wrong::ChargedSecondsNotLimited))
+                && self.priced[k] <= charged[k]
+                && self.surcharged[k] <= charged[k]
+                && (logged[k] <= self.lifetime[k] || planted(Wrong::PrevalenceByChargedSeconds))
                 && self.cap_sums[k] <= MAX_CAP * self.surcharged[k]
         };
         (0..4).all(kind_sound) && self.r <= data && self.h <= data
@@ -244,6 +259,9 @@ impl Account {
             return Err(5);
         }
         let charge = self.charge(place, kind, n, caps[kind as usize]);
+        if !self.has_room_for(kind, &charge) {
+            return Err(5);
+        }
         if charge.home + charge.extra > self.home + self.extra + self.credit {
             return Err(6);
         }
@@ -253,13 +271,16 @@ impl Account {
     /// What n units would bear. The account is sound and n at most a billion.
     fn charge(&self, place: Place, kind: Kind, n: u64, cap: u64) -> Charge {
         let k = kind as usize;
-        let priced = self.priced_units(place, kind, n);
-        let surcharged = self.surcharged_units(place, kind, n);
+        let units = charged_units(place, kind, n);
+        let priced = self.priced_units(place, kind, units);
+        let on_spoken = planted(Wrong::SurchargeOnSpokenSeconds);
+        let surcharged = self.surcharged_units(place, kind, if on_spoken { n } else { units });
         let mut all_priced = self.priced;
         all_priced[k] += priced;
         let mut all_sums = self.cap_sums;
         all_sums[k] += cap * surcharged;
         Charge {
+            units,
             priced,
             surcharged,
             home: if planted(Wrong::RoundsEachRecord) {
@@ -270,6 +291,13 @@ impl Account {
             },
             extra: extra_points(&all_sums),
         }
+    }
+
+    /// Whether charged seconds stay within refusal 5's limit (02, 3/13).
+    fn has_room_for(&self, kind: Kind, charge: &Charge) -> bool {
+        kind != Kind::Outgoing
+            || self.charged + charge.units <= MAX_LIFETIME
+            || planted(Wrong::ChargedSecondsNotLimited)
     }
 
     /// Home price: home and zone only; all prepaid kB, a bundle's kB after
@@ -316,11 +344,15 @@ impl Account {
         self.home = charge.home;
         self.extra = charge.extra;
         self.lifetime[k] += n;
+        if kind == Kind::Outgoing {
+            self.charged += charge.units;
+        }
         self.priced[k] += charge.priced;
         self.surcharged[k] += charge.surcharged;
         self.cap_sums[k] += cap * charge.surcharged;
         self.today.mark(place);
-        self.today.units[k][place as usize] += n;
+        let by_charged = planted(Wrong::PrevalenceByChargedSeconds);
+        self.today.units[k][place as usize] += if by_charged { charge.units } else { n };
         if kind == Kind::Data {
             self.count_data(place, n);
         }
@@ -328,6 +360,7 @@ impl Account {
             home,
             extra,
             surcharged: charge.surcharged,
+            charged: charge.units,
             notice,
         }
     }
@@ -386,8 +419,9 @@ impl Account {
         self.afford_at(kind, &caps_on(self.day))
     }
 
-    /// Afford with the caps as an argument. The cost never falls as n grows,
-    /// so the accepted n are those up to a greatest one: it is found by halving.
+    /// Afford with the caps as an argument. Neither the cost nor what a record
+    /// is charged as falls as n grows, so the accepted n are those up to a
+    /// greatest one: it is found by halving.
     pub fn afford_at(&self, kind: Kind, caps: &Caps) -> Result<Answer, u32> {
         if !self.sound() {
             return Err(0);
@@ -399,7 +433,7 @@ impl Account {
         while least < most {
             let n = least + (most - least).div_ceil(2);
             let charge = self.charge(place, kind, n, caps[kind as usize]);
-            if charge.home + charge.extra <= funds {
+            if charge.home + charge.extra <= funds && self.has_room_for(kind, &charge) {
                 least = n;
             } else {
                 most = n - 1;
@@ -417,5 +451,23 @@ impl Account {
             Call::NextDay => self.next_day(),
             Call::Afford(kind) => self.afford(kind),
         }
+    }
+}
+
+/// The units that a record bears charges for (02, 3/13). An outgoing call in
+/// the zone pays for its first half minute whole, and after that by the second;
+/// all other use pays for what it is.
+pub fn charged_units(place: Place, kind: Kind, n: u64) -> u64 {
+    let whole_half_minute = match (place, kind) {
+        (Place::Zone, Kind::Outgoing) => !planted(Wrong::SpokenSecondsCharged),
+        (Place::Home, Kind::Outgoing) => planted(Wrong::HalfMinuteAtHome),
+        _ => false,
+    };
+    if !whole_half_minute {
+        n
+    } else if planted(Wrong::HalfMinuteAdded) {
+        n + LEAST_CHARGED
+    } else {
+        n.max(LEAST_CHARGED)
     }
 }

@@ -53,10 +53,23 @@ pub enum Wrong {
     CallsBeforePlan,
     /// A section of another kind than plan and calls may be there twice.
     OtherKindsTwice,
+    /// A short outgoing zone record is charged as it was spoken.
+    SpokenSecondsCharged,
+    /// A short outgoing record at home is charged half a minute, too.
+    HalfMinuteAtHome,
+    /// The surcharge bears on spoken seconds, though the home price bears on
+    /// the charged ones.
+    SurchargeOnSpokenSeconds,
+    /// The day's record gets charged seconds, so that prevalence is by them.
+    PrevalenceByChargedSeconds,
+    /// Refusal 5 looks at spoken seconds alone.
+    ChargedSecondsNotLimited,
+    /// Half a minute is added to every outgoing zone record.
+    HalfMinuteAdded,
 }
 
 impl Wrong {
-    pub const ALL: [Wrong; 23] = [
+    pub const ALL: [Wrong; 29] = [
         Wrong::RoundsEachRecord,
         Wrong::LimitFromTopUp,
         Wrong::SurchargesTwice,
@@ -80,6 +93,12 @@ impl Wrong {
         Wrong::RoomBeforeCalls,
         Wrong::CallsBeforePlan,
         Wrong::OtherKindsTwice,
+        Wrong::SpokenSecondsCharged,
+        Wrong::HalfMinuteAtHome,
+        Wrong::SurchargeOnSpokenSeconds,
+        Wrong::PrevalenceByChargedSeconds,
+        Wrong::ChargedSecondsNotLimited,
+        Wrong::HalfMinuteAdded,
     ];
 }
 

@@ -25,6 +25,7 @@ type Words = (u32, u32);
 
 const HOME: Words = (1, 0);
 const ZONE: Words = (1, 1);
+const ELSEWHERE: Words = (1, 2);
 const NEXT_DAY: Words = (7, 0);
 
 /// The plan and the calls of 01's example.
@@ -39,7 +40,7 @@ const FERRY_CALLS: [Words; 6] = [
 ];
 
 /// The cases that the program `statement` is run on, too.
-const OF_STATEMENT: [&str; 16] = [
+const OF_STATEMENT: [&str; 17] = [
     "ferry",
     "empty",
     "eleven_bytes",
@@ -53,6 +54,7 @@ const OF_STATEMENT: [&str; 16] = [
     "limit_none",
     "off_days_cleared",
     "row_of_1826",
+    "half_minute",
     "largest",
     "largest_and_a_byte",
     "largest_and_a_word",
@@ -67,6 +69,7 @@ pub fn cases() -> Vec<StoredCase> {
     all.extend(service_trips());
     all.extend(off_day_trips());
     all.extend(row_trips());
+    all.extend(half_minute_trips());
     all.extend(large_files());
     all
 }
@@ -380,6 +383,57 @@ fn row_trips() -> Vec<StoredCase> {
             "row_of_1826",
             "the same on days 1825 and 1826: 11,000 and 10,000",
             row_trip(1826),
+        ),
+    ]
+}
+
+/// Outgoing records of 1, 29, 30 and 31 seconds at home, in the zone and
+/// elsewhere, at ten points a second.
+fn half_minute() -> Vec<u8> {
+    let mut calls = vec![(6, 100_000)];
+    for place in [HOME, ZONE, ELSEWHERE] {
+        calls.extend([place, (3, 1), (3, 29), (3, 30), (3, 31)]);
+    }
+    file(FERRY_PLAN, &calls)
+}
+
+/// Elsewhere, 50 seconds less than the limit of refusal 5; one in the zone is
+/// charged 30 of them, and another is refused; then 21 elsewhere are refused,
+/// 20 accepted, and one more refused. As spoken all of them would fit.
+fn charged_seconds_full() -> Vec<u8> {
+    let mut calls = vec![(6, 1000), ELSEWHERE];
+    calls.extend([(3, 1_000_000_000); 999]);
+    calls.extend([(3, 999_999_950), ZONE, (3, 1), (3, 1)]);
+    calls.extend([ELSEWHERE, (3, 21), (3, 20), (3, 1)]);
+    file(FERRY_PLAN, &calls)
+}
+
+/// Document 02, 3/13: outgoing zone records are charged half a minute at least.
+fn half_minute_trips() -> Vec<StoredCase> {
+    let credit = [(6, 300), ZONE, (3, 1), (6, 299), (3, 1), HOME, (3, 1)];
+    vec![
+        case(
+            "half_minute",
+            "1, 29, 30 and 31 s out at home, in the zone and elsewhere, 10 points a second: 910 + 1,210 + 0, \
+             as 30 + 30 + 30 + 31 s are charged in the zone",
+            half_minute(),
+        ),
+        case(
+            "half_minute_surcharged",
+            "1 s out a day, charged 30, until calls are Surcharged: 1 s and 31 s then bear 61 x 220 / 60 = 223 points; \
+             Clear again by 154 spoken zone s against 200 at home",
+            service_trip(&[(3, 1)], &[(3, 1), (3, 31)], (3, 200), &[(3, 1)]),
+        ),
+        case(
+            "half_minute_credit",
+            "300 points pay for 1 s in the zone; 299 do not, by refusal 6, and pay for it at home: 310 points in all",
+            file(FERRY_PLAN, &credit),
+        ),
+        case(
+            "charged_seconds_full",
+            "50 s out below 1,000,000,000,000: 1 s in the zone (charged 30, 300 points) and 20 s elsewhere fill them; \
+             1, 21 and 1 s are refused by charged seconds alone",
+            charged_seconds_full(),
         ),
     ]
 }

@@ -92,12 +92,12 @@ fn a_day_without_registration_or_use_is_off() {
 fn limits_none_and_0() {
     let mut closed = open(bundle(1461, 0, 11_000, GB as u32));
     run(&mut closed, &[zone()]);
-    assert_eq!(closed.apply(data(5 * GB)), used(0, 0, 0, false));
+    assert_eq!(closed.apply(data(5 * GB)), used(0, 0, 0, 5 * GB, false));
     assert_eq!((closed.l, closed.r), (None, 5 * GB));
     let mut free = open(unlimited(1461, 0));
     run(&mut free, &[Call::TopUp(11_000), zone()]);
     assert_eq!(free.l, Some(0));
-    assert_eq!(free.apply(data(GB)), used(0, 11_000, GB, false));
+    assert_eq!(free.apply(data(GB)), used(0, 11_000, GB, GB, false));
 }
 
 #[test]
@@ -106,13 +106,22 @@ fn notice_at_exactly_l_and_split_records() {
     let mut account = open(plan);
     run(&mut account, &[Call::TopUp(100_000), zone()]);
     let mut below = account.clone();
-    assert_eq!(below.apply(data(2 * GB - 1)), used(0, 0, 0, false));
-    assert_eq!(below.apply(data(1)), used(0, 0, 0, true));
-    assert_eq!(below.apply(data(1)), used(0, 0, 1, false));
-    assert_eq!(account.apply(data(3 * GB)), used(0, 11_000, GB, true));
+    assert_eq!(
+        below.apply(data(2 * GB - 1)),
+        used(0, 0, 0, 2 * GB - 1, false)
+    );
+    assert_eq!(below.apply(data(1)), used(0, 0, 0, 1, true));
+    assert_eq!(below.apply(data(1)), used(0, 0, 1, 1, false));
+    assert_eq!(
+        account.apply(data(3 * GB)),
+        used(0, 11_000, GB, 3 * GB, true)
+    );
     account.states[0] = State::Surcharged;
     account.r = 0;
-    assert_eq!(account.apply(data(2 * GB)), used(0, 22_000, 2 * GB, true));
+    assert_eq!(
+        account.apply(data(2 * GB)),
+        used(0, 22_000, 2 * GB, 2 * GB, true)
+    );
 }
 
 #[test]
@@ -121,9 +130,9 @@ fn v_and_l_crossed_in_one_record() {
     assert_eq!(account.l, Some(2 * GB));
     run(&mut account, &[Call::TopUp(100_000), zone()]);
     let got = account.apply(data(5 * GB));
-    assert_eq!(got, used(2000, 33_000, 3 * GB, true));
+    assert_eq!(got, used(2000, 33_000, 3 * GB, 5 * GB, true));
     account.states[0] = State::Surcharged;
-    assert_eq!(account.apply(data(GB)), used(1000, 11_000, GB, false));
+    assert_eq!(account.apply(data(GB)), used(1000, 11_000, GB, GB, false));
 }
 
 #[test]
@@ -146,12 +155,12 @@ fn incoming_and_elsewhere_bear_no_home_price() {
     run(&mut account, &[elsewhere()]);
     for kind in Kind::ALL {
         let got = account.use_units(kind, 1_000_000);
-        assert_eq!(got, used(0, 0, 0, false));
+        assert_eq!(got, used(0, 0, 0, 1_000_000, false));
         assert_eq!(account.afford(kind), Ok(Answer::Most(1_000_000_000)));
     }
     run(&mut account, &[home()]);
     let got = account.use_units(Kind::Incoming, 60);
-    assert_eq!((got, account.priced), (used(0, 0, 0, false), [0; 4]));
+    assert_eq!((got, account.priced), (used(0, 0, 0, 60, false), [0; 4]));
     assert_eq!(account.today.units[2], [60, 0, 1_000_000]);
     assert_eq!(account.today.marks, [true, false, true]);
 }
@@ -163,18 +172,28 @@ fn surcharged_services_bear_the_caps_of_the_day() {
     account.states = [State::Surcharged; 3];
     assert_eq!(
         account.use_units(Kind::Outgoing, 59),
-        used(59, 186, 59, false)
+        used(59, 186, 59, 59, false)
     );
-    assert_eq!(account.use_units(Kind::Outgoing, 1), used(1, 4, 1, false));
-    assert_eq!(account.use_units(Kind::Incoming, 2), used(0, 0, 2, false));
-    assert_eq!(account.use_units(Kind::Incoming, 1), used(0, 1, 1, false));
-    assert_eq!(account.use_units(Kind::Sms, 3), used(30, 90, 3, false));
+    assert_eq!(
+        account.use_units(Kind::Outgoing, 1),
+        used(30, 95, 30, 30, false)
+    );
+    assert_eq!((account.lifetime[1], account.charged), (60, 89));
+    assert_eq!(
+        account.use_units(Kind::Incoming, 2),
+        used(0, 0, 2, 2, false)
+    );
+    assert_eq!(
+        account.use_units(Kind::Incoming, 1),
+        used(0, 1, 1, 1, false)
+    );
+    assert_eq!(account.use_units(Kind::Sms, 3), used(30, 90, 3, 3, false));
     assert_eq!(
         account.use_units(Kind::Data, GB),
-        used(0, 11_000, GB, false)
+        used(0, 11_000, GB, GB, false)
     );
     run(&mut account, &[home()]);
-    assert_eq!(account.use_units(Kind::Sms, 1), used(10, 0, 0, false));
+    assert_eq!(account.use_units(Kind::Sms, 1), used(10, 0, 0, 1, false));
 }
 
 fn day_of(marks: [bool; 3], kind: Kind, units: [u64; 3]) -> Day {

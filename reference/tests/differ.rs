@@ -195,6 +195,24 @@ fn an_afford_that_gives_up_early_is_found() {
     assert!(found(other).starts_with("Afford of "));
 }
 
+/// An Afford that lets a second through where half a minute is too dear.
+#[test]
+fn an_afford_of_1_second_in_place_of_0_is_found() {
+    let afford = |file: &[u8], kind: Kind, times: u64| {
+        let answer = (REFERENCE.afford)(file, kind, times);
+        if kind == Kind::Outgoing {
+            answer.max(1)
+        } else {
+            answer
+        }
+    };
+    let other = Side {
+        afford,
+        ..REFERENCE
+    };
+    assert_eq!(found(other), "Afford of Outgoing answered 1, not 0");
+}
+
 #[test]
 fn every_day_is_compared() {
     let mut differ = Differ::new(REFERENCE);

@@ -6,7 +6,7 @@ use reference::caps::Caps;
 use reference::meter::{Account, Answer};
 use reference::plan::{prepaid_limit, Plan};
 use reference::services::State;
-use reference::terms::{Call, Kind, Place};
+use reference::terms::{Call, Kind, Place, Service};
 
 /// Lek read as points; only the data cap matters here.
 const LEK: Caps = [970, 0, 0, 0];
@@ -56,20 +56,23 @@ fn e6_to_e12_bundles_at_cap_970() {
 #[test]
 fn e9_run_home_price_between_v_and_l() {
     let mut account = in_zone(bundle(1461, 500, 1000, 2 * GB as u32), 10_000);
-    assert_eq!(take(&mut account, 2 * GB), used(0, 0, 0, false));
-    assert_eq!(take(&mut account, 64_860), used(30, 0, 0, true));
-    assert_eq!(take(&mut account, 1), used(0, 0, 1, false));
-    assert_eq!(take(&mut account, GB), used(500, 970, GB, false));
+    assert_eq!(take(&mut account, 2 * GB), used(0, 0, 0, 2 * GB, false));
+    assert_eq!(take(&mut account, 64_860), used(30, 0, 0, 64_860, true));
+    assert_eq!(take(&mut account, 1), used(0, 0, 1, 1, false));
+    assert_eq!(take(&mut account, GB), used(500, 970, GB, GB, false));
 }
 
 #[test]
 fn e10_run_surcharge_alone_between_l_and_v() {
     let mut account = in_zone(bundle(1461, 500, 2000, 7 * GB as u32), 10_000);
-    assert_eq!(take(&mut account, 4_324_024), used(0, 0, 0, true));
+    assert_eq!(
+        take(&mut account, 4_324_024),
+        used(0, 0, 0, 4_324_024, true)
+    );
     let past = 7 * GB - 4_324_024;
     assert_eq!(past, 3_016_008);
-    assert_eq!(take(&mut account, past), used(0, 2790, past, false));
-    assert_eq!(take(&mut account, GB), used(500, 970, GB, false));
+    assert_eq!(take(&mut account, past), used(0, 2790, past, past, false));
+    assert_eq!(take(&mut account, GB), used(500, 970, GB, GB, false));
 }
 
 #[test]
@@ -78,11 +81,11 @@ fn e5_and_e13_volume_partly_used_at_home() {
     assert_eq!(account.l, Some(3 * GB));
     account.top_up_at(10_000, &LEK).unwrap();
     account.register_at(Place::Home, &LEK).unwrap();
-    assert_eq!(take(&mut account, 3 * GB), used(0, 0, 0, false));
+    assert_eq!(take(&mut account, 3 * GB), used(0, 0, 0, 3 * GB, false));
     account.register_at(Place::Zone, &LEK).unwrap();
-    assert_eq!(take(&mut account, 2 * GB), used(0, 0, 0, false));
-    assert_eq!(take(&mut account, GB), used(500, 0, 0, true));
-    assert_eq!(take(&mut account, GB), used(500, 970, GB, false));
+    assert_eq!(take(&mut account, 2 * GB), used(0, 0, 0, 2 * GB, false));
+    assert_eq!(take(&mut account, GB), used(500, 0, 0, GB, true));
+    assert_eq!(take(&mut account, GB), used(500, 970, GB, GB, false));
 }
 
 #[test]
@@ -94,8 +97,8 @@ fn e14_prepaid_credit_ends_before_the_limit() {
         account.afford_at(Kind::Data, &LEK),
         Ok(Answer::Most(51_251))
     );
-    assert_eq!(take(&mut account, 51_200), used(1000, 0, 0, false));
-    assert_eq!(take(&mut account, 51), used(0, 0, 0, false));
+    assert_eq!(take(&mut account, 51_200), used(1000, 0, 0, 51_200, false));
+    assert_eq!(take(&mut account, 51), used(0, 0, 0, 51, false));
     assert_eq!(take(&mut account, 1), Err(6));
 }
 
@@ -104,22 +107,32 @@ fn e15_to_e17_prepaid_past_the_limit() {
     let mut at_home = open(prepaid(1461, 500, 0, 0));
     run(&mut at_home, &[Call::TopUp(2000), home()]);
     assert_eq!(at_home.afford(Kind::Data), Ok(Answer::Most(4_196_401)));
-    assert_eq!(at_home.clone().apply(data(4 * GB)), used(2000, 0, 0, false));
+    assert_eq!(
+        at_home.clone().apply(data(4 * GB)),
+        used(2000, 0, 0, 4 * GB, false)
+    );
     let mut account = in_zone(prepaid(1461, 500, 0, 0), 2000);
     assert_eq!(account.l, Some(2_162_012), "E15");
-    assert_eq!(take(&mut account, 2_162_012), used(1030, 0, 0, true), "E16");
+    assert_eq!(
+        take(&mut account, 2_162_012),
+        used(1030, 0, 0, 2_162_012, true),
+        "E16"
+    );
     assert_eq!(account.credit, 970);
     let most = account.afford_at(Kind::Data, &LEK);
     assert_eq!(most, Ok(Answer::Most(692_211)));
     let mut last = account.clone();
-    assert_eq!(take(&mut last, 692_211), used(330, 640, 692_211, false));
+    assert_eq!(
+        take(&mut last, 692_211),
+        used(330, 640, 692_211, 692_211, false)
+    );
     assert_eq!((last.credit, take(&mut last, 1)), (0, Err(6)));
     assert_eq!(take(&mut account, GB), Err(6), "E17");
     account.register_at(Place::Home, &LEK).unwrap();
     account.top_up_at(500, &LEK).unwrap();
     // Topped up at home, so the old L holds; the zone is entered by hand.
     account.place = Some(Place::Zone);
-    assert_eq!(take(&mut account, GB), used(500, 970, GB, false), "E17");
+    assert_eq!(take(&mut account, GB), used(500, 970, GB, GB, false), "E17");
 }
 
 #[test]
@@ -176,4 +189,22 @@ fn e33_a_run_of_7_or_8_zone_days_after_the_warning() {
         spend(&mut account, 15 - zone_days, Place::Home);
         assert_eq!((account.day, account.states[0]), (319, wanted));
     }
+}
+
+/// The source has 0.0275 euro a minute with VAT, which is 220 points without:
+/// the cap of 2024, days 730 to 1095. There is no home price here.
+#[test]
+fn e37_the_first_30_seconds_cost_110_points() {
+    let mut account = open(prepaid(730, 0, 0, 0));
+    run(&mut account, &[Call::TopUp(10_000), zone()]);
+    account.states[Service::Calls as usize] = State::Surcharged;
+    for n in 1..=30 {
+        let got = account.use_units(Kind::Outgoing, n);
+        assert_eq!(got, used(0, 110, 30, 30, false), "E37, {n} s");
+    }
+    assert_eq!(account.extra, 30 * 110);
+    // D12: after them by the second, though the source's first minute goes by
+    // half minutes; 31 x 220 / 60 = 113.
+    let got = account.use_units(Kind::Outgoing, 31);
+    assert_eq!(got, used(0, 113, 31, 31, false));
 }

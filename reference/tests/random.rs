@@ -21,7 +21,7 @@ fn equal_ends_after_different_stretches() {
     let first = trace(plan, &[home(), data(1), home()]);
     let second = trace(plan, &[home(), home(), data(1)]);
     assert_eq!(first.cuts, second.cuts);
-    assert_ne!(first.sums, second.sums);
+    assert_ne!(first.units, second.units);
     assert_eq!(first.accounts.last(), second.accounts.last());
     assert_ne!(first.accounts, second.accounts);
     assert!(first.matches(&second));

@@ -44,7 +44,7 @@ fn assert_refused(account: &Account) {
 fn each_rule_of_soundness_by_itself() {
     let sound = busy();
     assert!(sound.sound());
-    let breaks: [fn(&mut Account); 26] = [
+    let breaks: [fn(&mut Account); 27] = [
         |a| a.plan.form = 3,
         |a| a.plan.volume = 0,
         |a| a.plan.fee = 10_000_001,
@@ -54,6 +54,7 @@ fn each_rule_of_soundness_by_itself() {
         |a| a.day = a.plan.start - 1,
         |a| a.day += 1,
         |a| a.lifetime[3] = 1_000_000_000_001,
+        |a| a.charged = 1_000_000_000_001,
         |a| a.paid_in = 1_000_000_001,
         |a| a.home += 1,
         |a| a.extra -= 1,
@@ -88,10 +89,10 @@ fn paid_in_over_its_limit_is_unsound_though_the_sums_agree() {
     assert_refused(&account);
 }
 
-/// Soundness is the list of 01 and nothing more.
+/// Soundness is the list of 01, with 02's 3/13, and nothing more.
 #[test]
 fn odd_accounts_that_are_sound() {
-    let changes: [fn(&mut Account); 7] = [
+    let changes: [fn(&mut Account); 8] = [
         |a| a.l = None,
         |a| a.l = Some(2_000_000_000_000_000),
         |a| a.today.marks = [false; 3],
@@ -99,6 +100,7 @@ fn odd_accounts_that_are_sound() {
         |a| a.log[3].units = [[0; 3]; 4],
         |a| a.states = [State::Warned(14), State::Surcharged, State::Warned(0)],
         |a| a.place = None,
+        |a| a.charged = 1_000_000_000_000,
     ];
     for change in changes {
         let mut account = busy();
@@ -108,6 +110,34 @@ fn odd_accounts_that_are_sound() {
     let mut account = open(prepaid(700, 0, 0, 0));
     account.l = None;
     assert!(account.sound());
+}
+
+/// Sets a field to any number.
+fn alter(account: &mut Account, rng: &mut Rng) {
+    let value = match rng.below(4) {
+        0 => u64::MAX,
+        1 => rng.below(1000),
+        2 => rng.scaled(u64::MAX >> 2),
+        _ => rng.word(),
+    };
+    let k = rng.below(4) as usize;
+    match rng.below(15) {
+        0 => account.credit = value,
+        1 => account.paid_in = value,
+        2 => account.home = value,
+        3 => account.extra = value,
+        4 => account.lifetime[k] = value,
+        5 => account.priced[k] = value,
+        6 => account.surcharged[k] = value,
+        7 => account.cap_sums[k] = value,
+        8 => account.h = value,
+        9 => account.r = value,
+        10 => account.l = Some(value),
+        11 => account.log[k].units[k] = [value, u64::MAX, 1],
+        12 => account.day = value as u32,
+        13 => account.charged = value,
+        _ => account.plan.fee = value as u32,
+    }
 }
 
 /// Any values at all are refused or sound, and nothing overflows. Where sums
@@ -121,33 +151,10 @@ fn any_values_never_overflow() {
     let most = black_box(u64::MAX);
     assert!(catch_unwind(|| most + black_box(1)).is_err(), "sums wrap");
     let mut rng = Rng::new(7);
-    let big = |rng: &mut Rng| match rng.below(4) {
-        0 => u64::MAX,
-        1 => rng.below(1000),
-        2 => rng.scaled(u64::MAX >> 2),
-        _ => rng.word(),
-    };
     for _ in 0..4_000 {
         let mut account = busy();
         for _ in 0..rng.between(1, 3) {
-            let value = big(&mut rng);
-            let k = rng.below(4) as usize;
-            match rng.below(14) {
-                0 => account.credit = value,
-                1 => account.paid_in = value,
-                2 => account.home = value,
-                3 => account.extra = value,
-                4 => account.lifetime[k] = value,
-                5 => account.priced[k] = value,
-                6 => account.surcharged[k] = value,
-                7 => account.cap_sums[k] = value,
-                8 => account.h = value,
-                9 => account.r = value,
-                10 => account.l = Some(value),
-                11 => account.log[k].units[k] = [value, u64::MAX, 1],
-                12 => account.day = value as u32,
-                _ => account.plan.fee = value as u32,
-            }
+            alter(&mut account, &mut rng);
         }
         for call in every_call() {
             let mut copy = account.clone();
@@ -199,7 +206,7 @@ fn use_refuses_in_the_order_3_4_5_6() {
     assert_eq!(account.apply(Call::Use(Kind::Sms, 1)), Err(6));
     assert_eq!(account.afford(Kind::Sms), Ok(Answer::Most(0)));
     // One kB costs 0 points of its own: accepted with credit 0.
-    assert_eq!(account.apply(data(1)), used(0, 0, 0, false));
+    assert_eq!(account.apply(data(1)), used(0, 0, 0, 1, false));
     assert_eq!(account.apply(data(1)), Err(5));
     assert_eq!(account.afford(Kind::Data), Ok(Answer::Most(0)));
 }
@@ -231,6 +238,6 @@ fn a_thousand_records_of_one_kb_cost_as_much_as_one() {
     for _ in 0..1000 {
         split.apply(data(1)).unwrap();
     }
-    assert_eq!(whole.apply(data(1000)), used(953, 0, 0, false));
+    assert_eq!(whole.apply(data(1000)), used(953, 0, 0, 1000, false));
     assert_eq!(split, whole);
 }

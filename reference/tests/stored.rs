@@ -130,6 +130,79 @@ fn surcharges_on_both_sides_of_each_row() {
     }
 }
 
+/// The figures of a case, whether L is a number left out.
+fn all_figures(name: &str) -> [u64; 9] {
+    let [day, paid, credit, home, extra, _, limit, roamed, past, refused] =
+        figures_of(&named(name).bytes).unwrap();
+    [day, paid, credit, home, extra, limit, roamed, past, refused]
+}
+
+/// At home 91 s are 910 points; in the zone 30 + 30 + 30 + 31 = 121 s are
+/// charged, 1,210 points; elsewhere nothing. L comes from the credit on entry:
+/// 99,090 x 1,048,576 / 11,000 = 9,445,763.
+#[test]
+fn short_calls_at_each_place() {
+    let wanted = [1461, 100_000, 97_880, 2120, 0, 9_445_763, 0, 0, 0];
+    assert_eq!(all_figures("half_minute"), wanted);
+    let printed = "day 1461\npaid 100000\ncredit 97880\nhome 2120\nextra 0\nlimit 9445763\n\
+                   roamed 0\npast 0\nrefused 0\n";
+    assert_eq!(statement(&named("half_minute").bytes), printed);
+}
+
+/// 138 x 30 + 30 + 31 + 200 + 30 = 4,431 s at ten points; (30 + 31) x 220 / 60
+/// = 223 points. The credit on the last entry is 300 points more than at the
+/// end: 9,955,767 x 1,048,576 / 20,000 = 521,968,916.
+#[test]
+fn surcharged_short_calls() {
+    let all = [
+        State::Clear,
+        State::Warned(0),
+        State::Surcharged,
+        State::Clear,
+    ];
+    let name = "half_minute_surcharged";
+    assert_eq!(states(name, Service::Calls), all);
+    let wanted = [
+        320,
+        10_000_000,
+        9_955_467,
+        44_310,
+        223,
+        521_968_916,
+        0,
+        0,
+        0,
+    ];
+    assert_eq!(all_figures(name), wanted);
+}
+
+/// 300 points for a second in the zone, ten for one at home. L comes from the
+/// top-up in the zone, with a credit of 299: 299 x 1,048,576 / 11,000 = 28,502.
+#[test]
+fn credit_for_half_a_minute_and_a_point_less() {
+    let wanted = [1461, 599, 289, 310, 0, 28_502, 0, 0, 1];
+    assert_eq!(all_figures("half_minute_credit"), wanted);
+}
+
+/// 300 points for the one second that was accepted in the zone; three refused.
+/// On entry 1,000 x 1,048,576 / 11,000 = 95,325.
+#[test]
+fn charged_seconds_come_to_their_limit_first() {
+    let wanted = [1461, 1000, 700, 300, 0, 95_325, 0, 0, 3];
+    assert_eq!(all_figures("charged_seconds_full"), wanted);
+    let trip = read(&named("charged_seconds_full").bytes).unwrap();
+    let mut account = Account::open(trip.plan).unwrap();
+    let mut refused = Vec::new();
+    for (code, number) in trip.calls {
+        if let Err(by) = account.apply(Call::from_words(code, number).unwrap()) {
+            refused.push((number, by));
+        }
+    }
+    assert_eq!(refused, [(1, 5), (21, 5), (1, 5)]);
+    assert_eq!(account.charged, 1_000_000_000_000);
+    assert_eq!(account.lifetime[1], 999_999_999_971);
+}
+
 #[test]
 fn the_largest_file_takes_all_services_through_all_states() {
     let trip = read(&named("largest").bytes).unwrap();

@@ -34,12 +34,13 @@ use Rattle.presence.specs.Service.{state-step, next-state, services-after}
 use Rattle.presence.proofs.Marks.{day-use-bounded, day-mark-bounded}
 use Rattle.presence.proofs.Logs.{over-joined, blank-joined, over-empty, blank-empty}
 use Rattle.presence.proofs.Numbers.{days-joined, days-empty, marks-joined, marks-empty}
-use Rattle.metering.specs.Use.{billable, roaming, billed-after, newly-surcharged, basis-after, cost, spent}
+use Rattle.metering.specs.Use.{charged-units, with-seconds, billable, roaming, billed-after, newly-surcharged, basis-after, cost, spent}
 use Rattle.metering.specs.Moves.{opened-state, enters, registered, renews, topped, turns-month, next-state-of}
 use Rattle.metering.specs.Sound.{allowance-fits, warning-fits, figures-sound}
 use Rattle.metering.specs.Reasons.{use-reasons, top-up-reasons, next-day-reasons}
 use Rattle.metering.proofs.Adding.{Worked, spent-worked, spent-adds, home-grows, extra-grows}
-use Rattle.metering.proofs.Bounds.{billable-bounded, roaming-bounded, billed-of-bounded, newly-bounded}
+use Rattle.metering.proofs.Verdicts.{Room, has-room, room-only}
+use Rattle.metering.proofs.Bounds.{charged-kinds, billable-bounded, roaming-bounded, billed-of-bounded, newly-bounded}
 use Rattle.metering.proofs.Soundness.{Figures, figures-tell, figures-pass, Balanced, charges-tell, charges-pass, plan-of-state}
 use Rattle.account.specs.declared.Account.{Account}
 use Rattle.account.specs.declared.Call.{Call}
@@ -119,6 +120,7 @@ sound-register a q s =
         started = f .started;
         day-ok = f .day-ok;
         lifetime-ok = f .lifetime-ok;
+        charged-ok = f .charged-ok;
         paid-ok = f .paid-ok;
         roamed-ok = either-bounded e (a .state .roamed) (a .state .lifetime .kb) (f .roamed-ok);
         monthly-ok = f .monthly-ok;
@@ -146,6 +148,7 @@ sound-top-up a n h s =
         started = f .started;
         day-ok = f .day-ok;
         lifetime-ok = f .lifetime-ok;
+        charged-ok = f .charged-ok;
         paid-ok = h;
         roamed-ok = either-bounded e (a .state .roamed) (a .state .lifetime .kb) (f .roamed-ok);
         monthly-ok = f .monthly-ok;
@@ -174,6 +177,7 @@ sound-next a h s =
         started = omega (arith, f .started);
         day-ok = omega arith;
         lifetime-ok = f .lifetime-ok;
+        charged-ok = f .charged-ok;
         paid-ok = f .paid-ok;
         roamed-ok = either-bounded e (a .state .roamed) (a .state .lifetime .kb) (f .roamed-ok);
         monthly-ok = either-bounded e (a .state .monthly) (a .state .lifetime .kb) (f .monthly-ok);
@@ -194,44 +198,49 @@ sound-next a h s =
       };
     }
 
-room : (k : Kind) (n : ℕ) (u : Units) → AtMost u lifetime-most → of-kind k u + n ≤ 1000000000000 → AtMost (u ⊕ only k n) lifetime-most
-room Data n u h l = omega (arith, h)
-room Outgoing n u h l = omega (arith, h)
-room Incoming n u h l = omega (arith, h)
-room Sms n u h l = omega (arith, h)
-
-sound-use : (a : Account) (k : Kind) (n : ℕ) → of-kind k (a .state .lifetime) + n ≤ 1000000000000 → cost (a .state) (only k n) ≤ a .state .credit → Sound a → Sound (spend a (only k n))
+-- a spend of u units charged as c, which differ from u in outgoing seconds at most
+sound-spend : (a : Account) (u c : Units) → AtMost (a .state .lifetime ⊕ u) lifetime-most → a .state .chargedseconds + c .outgoing ≤ 1000000000000
+    → AtMost c (with-seconds u (c .outgoing)) → cost (a .state) c ≤ a .state .credit → Sound a → Sound (spend a u c)
 unfolding spend cost spent
-sound-use a k n l h s =
+sound-spend a u c l t q h s =
     let f = s .figures in
-    let u : Units = only k n in
-    let b : AtMost (billable (a .state .place) u) u = billable-bounded (a .state .place) u in
-    let r : AtMost (roaming (a .state .place) u) u = roaming-bounded (a .state .place) u in
+    let b : AtMost (billable (a .state .place) c) c = billable-bounded (a .state .place) c in
+    let r : AtMost (roaming (a .state .place) c) c = roaming-bounded (a .state .place) c in
     let w = s .money .worked in
     record {
       figures = record {
         plan-ok = f .plan-ok;
         started = f .started;
         day-ok = f .day-ok;
-        lifetime-ok = room k n (a .state .lifetime) (f .lifetime-ok) l;
+        lifetime-ok = l;
+        charged-ok = t;
         paid-ok = f .paid-ok;
-        roamed-ok = omega (arith, r, f .roamed-ok);
-        monthly-ok = omega (arith, b, f .monthly-ok, counted-bounded (a .state .plan .form) (billable (a .state .place) u .kb));
-        billed-ok = unfold billed-after in omega (arith, f .billed-ok, b, billed-of-bounded (a .state .plan) (a .state .monthly) (billable (a .state .place) u));
-        surcharged-ok = omega (arith, f .surcharged-ok, newly-bounded (a .state) u);
-        basis-ok = unfold basis-after in basis-grows 20000 (a .state .basis) (caps-on built-in (a .state .day)) (a .state .surcharged) (newly-surcharged (a .state) u) (f .basis-ok) (caps-bound (a .state .day) .most);
+        roamed-ok = omega (arith, r, q, f .roamed-ok);
+        monthly-ok = omega (arith, b, q, f .monthly-ok, counted-bounded (a .state .plan .form) (billable (a .state .place) c .kb));
+        billed-ok = unfold billed-after in omega (arith, f .billed-ok, b, q, billed-of-bounded (a .state .plan) (a .state .monthly) (billable (a .state .place) c));
+        surcharged-ok = omega (arith, f .surcharged-ok, q, newly-bounded (a .state) c);
+        basis-ok = unfold basis-after in basis-grows 20000 (a .state .basis) (caps-on built-in (a .state .day)) (a .state .surcharged) (newly-surcharged (a .state) c) (f .basis-ok) (caps-bound (a .state .day) .most);
         allowance-ok = f .allowance-ok;
         logged-ok = f .logged-ok;
         internet-ok = f .internet-ok;
         calls-ok = f .calls-ok;
         messages-ok = f .messages-ok;
       };
-      money = record { worked = spent-worked (a .state) u u u u; balance = omega (arith, h, s .money .balance, home-grows (a .state) u w, extra-grows (a .state) u w) };
+      money = record { worked = spent-worked (a .state) u c u c; balance = omega (arith, h, s .money .balance, home-grows (a .state) c w, extra-grows (a .state) c w) };
       days = record { days-ok = omega (arith, s .days .days-ok, day-use-bounded (a .state .place) u (a .state .today)); rest-ok = s .days .rest-ok; marks-ok = s .days .marks-ok };
     }
 
+sound-use : (a : Account) (k : Kind) (n : ℕ) → Room (a .state) k n → cost (a .state) (charged-units (a .state .place) k n) ≤ a .state .credit
+    → Sound a → Sound (spend a (only k n) (charged-units (a .state .place) k n))
+sound-use a k n r h s =
+    sound-spend a (only k n) (charged-units (a .state .place) k n) (room-only (a .state .lifetime) k n (s .figures .lifetime-ok) (r .units)) (r .seconds) (charged-kinds (a .state .place) k n) h s
+
 -- what acceptance tells of a use, a top-up and a day change
-pub within-credit : (a : Account) (k : Kind) (n : ℕ) → accepts a (Use k n) ≡ true → cost (a .state) (only k n) ≤ a .state .credit
+within-limits : (a : Account) (k : Kind) (n : ℕ) → accepts a (Use k n) ≡ true → Room (a .state) k n
+unfolding accepts verdict reasons own-reasons use-reasons
+within-limits a k n e = has-room _ _ _ (first-fails _ _ (rest-accepts _ _ (rest-accepts _ _ (rest-accepts _ _ e))))
+
+pub within-credit : (a : Account) (k : Kind) (n : ℕ) → accepts a (Use k n) ≡ true → cost (a .state) (charged-units (a .state .place) k n) ≤ a .state .credit
 unfolding accepts verdict reasons own-reasons use-reasons
 within-credit a k n e = ltb-false _ _ (first-fails _ _ (rest-accepts _ _ (rest-accepts _ _ (rest-accepts _ _ (rest-accepts _ _ e)))))
 
@@ -243,7 +252,7 @@ some-units a k n e = not-false (between 1 n 1000000000) (first-fails _ _ (rest-a
 pub sound-after : (a : Account) (c : Call) → accepts a c ≡ true → Sound a → Sound (after a c)
 unfolding after accepts verdict reasons own-reasons use-reasons top-up-reasons next-day-reasons
 sound-after a (Register q) e s = sound-register a q s
-sound-after a (Use k n) e s = sound-use a k n (ltb-false _ _ (first-fails _ _ (rest-accepts _ _ (rest-accepts _ _ (rest-accepts _ _ e))))) (within-credit a k n e) s
+sound-after a (Use k n) e s = sound-use a k n (within-limits a k n e) (within-credit a k n e) s
 sound-after a (TopUp n) e s = sound-top-up a n (ltb-false _ _ (first-fails _ _ (rest-accepts _ _ (rest-accepts _ _ e)))) s
 sound-after a NextDay e s = sound-next a (leb-false _ _ (first-fails _ _ (rest-accepts _ _ e))) s
 sound-after a (Afford k) e s = s
@@ -273,6 +282,7 @@ sound-opened p e =
         started = omega arith;
         day-ok = o .late;
         lifetime-ok = omega arith;
+        charged-ok = omega arith;
         paid-ok = omega arith;
         roamed-ok = omega arith;
         monthly-ok = omega arith;
@@ -290,9 +300,9 @@ sound-opened p e =
     }
 
 -- two uses, one after the other, are one use of their sum
-pub spend-adds : (a : Account) (u v : Units) → Worked (a .state) → spend (spend a u) v ≡ spend a (u ⊕ v)
+pub spend-adds : (a : Account) (u c v d : Units) → Worked (a .state) → spend (spend a u c) v d ≡ spend a (u ⊕ v) (c ⊕ d)
 unfolding spend
-spend-adds a u v w = λ i. record { state = spent-adds (a .state) u u v v w i; log = a .log }
+spend-adds a u c v d w = λ i. record { state = spent-adds (a .state) u c v d w i; log = a .log }
 
 -- equal accounts stay equal under every call
 pub equal-step : (a b : Account) (c : Call) → a ≡ b → step a c ≡ step b c

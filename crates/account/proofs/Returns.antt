@@ -15,7 +15,7 @@ use Rattle.presence.specs.Log.{days-of, logged-with}
 use Rattle.presence.proofs.Numbers.{logged-size}
 use Rattle.metering.specs.declared.State.{State}
 use Rattle.metering.specs.declared.UseAnswer.the-variants.{Declined}
-use Rattle.metering.specs.Use.{spent}
+use Rattle.metering.specs.Use.{charged-units, spent}
 use Rattle.metering.specs.Moves.{registered, topped, next-state-of}
 use Rattle.metering.specs.Reasons.{use-reasons, top-up-reasons, next-day-reasons, use-state}
 use Rattle.account.specs.declared.Account.{Account}
@@ -41,7 +41,7 @@ unfolding use-result verdict reasons own-reasons verdict-of step accepts after u
 use-sound a k n s =
     rw s (λ i. record {
       answer = use-state (a .state) k n .answer;
-      account = either (is-accepted (verdict-of (use-reasons (a .state) k n))) a (spent (a .state) (only k n) (only k n)) i;
+      account = either (is-accepted (verdict-of (use-reasons (a .state) k n))) a (spent (a .state) (only k n) (charged-units (a .state .place) k n)) i;
     })
 
 pub unsound : (a : Account) (c : Call) → sound a ≡ false → _≡_ {A = Answered} (record { answer = Refused 0; account = a }) (answer-of a c)
@@ -88,7 +88,7 @@ register-keeps a p = kept (accepts a (Register p)) a (register-at a p) refl
 
 pub use-keeps : (a : Account) (k : Kind) (n : ℕ) → step a (Use k n) .log ≡ a .log
 unfolding step after spend
-use-keeps a k n = kept (accepts a (Use k n)) a (spend a (only k n)) refl
+use-keeps a k n = kept (accepts a (Use k n)) a (spend a (only k n) (charged-units (a .state .place) k n)) refl
 
 pub top-up-keeps : (a : Account) (n : ℕ) → step a (TopUp n) .log ≡ a .log
 unfolding step after top-up-by

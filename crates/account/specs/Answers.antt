@@ -9,12 +9,11 @@ use Rattle.tariff.specs.declared.Plan.{Plan}
 use Rattle.tariff.specs.declared.Verdict.{Verdict}
 use Rattle.tariff.specs.declared.Verdict.the-variants.{Accepted, Refused}
 use Rattle.tariff.specs.Tests.{is-accepted}
-use Rattle.tariff.specs.Units.{only}
 use Rattle.tariff.specs.Plan.{plan-verdict}
 use Rattle.afford.specs.Largest.{largest}
 use Rattle.metering.specs.declared.State.{State}
 use Rattle.metering.specs.declared.StateUsed.{StateUsed}
-use Rattle.metering.specs.Use.{charge-of}
+use Rattle.metering.specs.Use.{charged-units, charge-of}
 use Rattle.metering.specs.Reasons.{use-answer}
 use Rattle.account.specs.declared.Account.{Account}
 use Rattle.account.specs.declared.Used.{Used}
@@ -38,7 +37,7 @@ open-answer p = record { answer = plan-verdict p; account = cond (is-accepted (p
 
 -- Use: its charge or 01's number
 unfoldable pub use-result : Account → Kind → ℕ → Used
-use-result a k n = record { answer = use-answer (verdict a (Use k n)) (charge-of (a .state) k (only k n)); account = step a (Use k n) }
+use-result a k n = record { answer = use-answer (verdict a (Use k n)) (charge-of (a .state) k (charged-units (a .state .place) k n)); account = step a (Use k n) }
 
 -- a registration, a top-up or a day change: accepted, or 01's number
 unfoldable pub answer-of : Account → Call → Answered

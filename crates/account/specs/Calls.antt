@@ -8,6 +8,7 @@ use Rattle.tariff.specs.declared.Verdict.{Verdict}
 use Rattle.tariff.specs.Tests.{Reason, because, verdict-of, is-accepted}
 use Rattle.tariff.specs.Units.{only}
 use Rattle.presence.specs.Day.{is-placed}
+use Rattle.metering.specs.Use.{charged-units}
 use Rattle.metering.specs.Reasons.{use-reasons, top-up-reasons, next-day-reasons}
 use Rattle.account.specs.declared.Account.{Account}
 use Rattle.account.specs.declared.Call.{Call}
@@ -37,7 +38,7 @@ accepts a c = is-accepted (verdict a c)
 -- what an accepted call makes of the account
 unfoldable pub after : Account → Call → Account
 after a (Register p) = register-at a p
-after a (Use k n) = spend a (only k n)
+after a (Use k n) = spend a (only k n) (charged-units (a .state .place) k n)
 after a (TopUp n) = top-up-by a n
 after a NextDay = day-after a
 after a (Afford k) = a

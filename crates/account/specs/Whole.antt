@@ -34,9 +34,9 @@ register-at a p = record { state = registered (a .state) p; log = a .log }
 unfoldable pub top-up-by : Account → ℕ → Account
 top-up-by a n = record { state = topped (a .state) n; log = a .log }
 
--- Use, as a spend of a vector of units
-unfoldable pub spend : Account → Units → Account
-spend a u = record { state = spent (a .state) u u; log = a .log }
+-- Use, as a spend of a vector of units u, charged as c
+unfoldable pub spend : Account → Units → Units → Account
+spend a u c = record { state = spent (a .state) u c; log = a .log }
 
 -- Next day: today joins the log, then the rest follows from the log with it
 unfoldable pub day-after : Account → Account

@@ -8,13 +8,14 @@ use borrow.Author.Tests.{leb-true, leb-false, ltb-false, le-leb, lt-leb, lt-ltb,
 use Rattle.tariff.specs.declared.Kind.{Kind}
 use Rattle.tariff.specs.declared.Verdict.the-variants.{Accepted, Refused}
 use Rattle.tariff.specs.Tests.{verdict-of, is-accepted}
-use Rattle.tariff.specs.Units.{only, of-kind}
+use Rattle.tariff.specs.Units.{AtMost}
 use Rattle.tariff.proofs.Tests.{and-left, and-right, and-false, not-true}
-use Rattle.tariff.proofs.Sums.{only-order}
 use Rattle.presence.specs.Day.{is-placed}
 use Rattle.metering.specs.declared.State.{State}
-use Rattle.metering.specs.Use.{cost}
-use Rattle.metering.specs.Reasons.{use-reasons}
+use Rattle.metering.specs.Use.{charged-units, cost}
+use Rattle.metering.specs.Reasons.{overfills, use-reasons}
+use Rattle.metering.proofs.Bounds.{charged-order}
+use Rattle.metering.proofs.Verdicts.{Room, has-room, room-enough}
 use Rattle.afford.specs.Largest.{largest, use-accepted}
 use Rattle.afford.proofs.Growth.{cost-grows}
 
@@ -62,15 +63,15 @@ largest-last test (suc n) m h l = go (test (suc n)) refl (λ k j. largest-last t
         last true f = rw (eqb-true m (suc n) f) e
         last false f = ih k (omega (arith, eqb-false m (suc n) f))
 
--- a use of 1 to 1,000,000,000 units somewhere is accepted where the lifetime units and the credit can take it
+-- a use of 1 to 1,000,000,000 units somewhere is accepted where the meters and the credit can take it
 abbrev fits-sums : State → Kind → ℕ → Bool
-fits-sums a k n = not (ltb 1000000000000 (of-kind k (a .lifetime) + n)) && not (ltb (a .credit) (cost a (only k n)))
+fits-sums a k n = not (overfills a k n) && not (ltb (a .credit) (cost a (charged-units (a .place) k n)))
 
 module _ (a : State) (k : Kind) where
   pub accepted-is : (n : ℕ) → is-placed (a .place) ≡ true → 1 ≤ n → n ≤ 1000000000 → use-accepted a k n ≡ fits-sums a k n
   unfolding use-accepted use-reasons verdict-of
   accepted-is n p s f =
-      rw (p, le-leb 1 n s, le-leb n 1000000000 f) (go (ltb 1000000000000 (of-kind k (a .lifetime) + n)) (ltb (a .credit) (cost a (only k n))))
+      rw (p, le-leb 1 n s, le-leb n 1000000000 f) (go (overfills a k n) (ltb (a .credit) (cost a (charged-units (a .place) k n))))
     where
       go : (b c : Bool) → is-accepted (cond b (Refused 5) (cond c (Refused 6) Accepted)) ≡ not b && not c
       go true c = refl
@@ -88,13 +89,16 @@ module _ (a : State) (k : Kind) where
 
   fits-less : (m n : ℕ) → m ≤ n → fits-sums a k n ≡ true → fits-sums a k m ≡ true
   fits-less m n h e =
-      let b = ltb 1000000000000 (of-kind k (a .lifetime) + n) in
-      let c = ltb (a .credit) (cost a (only k n)) in
-      let l = ltb-false 1000000000000 (of-kind k (a .lifetime) + n) (not-true b (and-left (not b) (not c) e)) in
-      let o = ltb-false (a .credit) (cost a (only k n)) (not-true c (and-right (not b) (not c) e)) in
+      let u = charged-units (a .place) k m in
+      let v = charged-units (a .place) k n in
+      let b = overfills a k n in
+      let c = ltb (a .credit) (cost a v) in
+      let r : Room a k n = has-room a k n (not-true b (and-left (not b) (not c) e)) in
+      let o = ltb-false (a .credit) (cost a v) (not-true c (and-right (not b) (not c) e)) in
+      let g : AtMost u v = charged-order (a .place) k m n h in
       simp (
-        le-ltb 1000000000000 (of-kind k (a .lifetime) + m) (omega arith),
-        le-ltb (a .credit) (cost a (only k m)) (omega (arith, cost-grows a (only k m) (only k n) (only-order k m n h))),
+        room-enough a k m record { units = omega (arith, r .units); seconds = omega (arith, r .seconds, g .outgoing) },
+        le-ltb (a .credit) (cost a u) (omega (arith, cost-grows a u v g)),
       )
 
   -- a larger use than a refused one is refused

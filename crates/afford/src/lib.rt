@@ -14,10 +14,12 @@ fn affords(a: State, k: Kind, n: u64) -> bool
     requires { ⌜ Tries a n ⌝ }
     ensures { λ r. ⌜ r ≡ use-accepted a k n ⌝ }
 {
-    if tariff::amount(k, a.lifetime) + n > 1000000000000 {
+    if metering::overfills(a, k, n) {
         return false;
     }
-    let b = metering::work_out(a, tariff::only_of(k, n));
+    let place = a.place;
+    let c = metering::charged_units(place, k, n);
+    let b = metering::work_out(a, c);
     (b.home - a.homecharges) + (b.extra - a.surcharges) <= a.credit
 }
 

@@ -10,11 +10,11 @@ use lib.Dec.{leb, eqb}
 use borrow.Author.Tests.{leb-true, leb-false, eqb-true, eqb-false, le-leb, lt-leb}
 use Rattle.calendar.specs.Calendar.{first-day, any-below, count-below, starts-month, month-of}
 
-or-left : (a b : Bool) → a || b ≡ false → a ≡ false
+pub or-left : (a b : Bool) → a || b ≡ false → a ≡ false
 or-left true b e = e
 or-left false b e = refl
 
-or-right : (a b : Bool) → a || b ≡ false → b ≡ false
+pub or-right : (a b : Bool) → a || b ≡ false → b ≡ false
 or-right true b e = cc
 or-right false b e = e
 

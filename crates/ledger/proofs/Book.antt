@@ -1,20 +1,24 @@
 -- After every list of calls the account holds what the journal's entries come to. Assumes nothing.
-use Prim.Native.Nat.{ℕ, suc, _+_, _-_, _≤_, min}
+use Prim.Native.Nat.{ℕ, suc, _+_, _-_, _≤_, min, max}
 use mathlib.Core.Path.{_≡_, refl, sym, _∙_, ap, ap₂}
 use mathlib.Core.Bool.{Bool, true, false, cond, _&&_}
 use mathlib.Core.List.{List, [], _∷_}
 use native.Mathlib.Nat.{add-zero, sub-self}
 use native.Mathlib.Numerals.{add-one}
 use native.Mathlib.Omega.{arith}
+use lib.Dec.{ltb}
+use borrow.Author.Tests.{ltb-true, ltb-false}
+use Rattle.tariff.specs.declared.Units.{Units}
 use Rattle.tariff.specs.declared.Kind.{Kind}
+use Rattle.tariff.specs.declared.Kind.the-variants.{Data, Outgoing, Incoming, Sms}
 use Rattle.tariff.specs.declared.Place.{Place}
 use Rattle.tariff.specs.declared.Place.the-variants.{Home, Zone, Elsewhere}
 use Rattle.tariff.specs.declared.Form.{Form}
 use Rattle.tariff.specs.declared.Form.the-variants.{Prepaid}
 use Rattle.tariff.specs.declared.Plan.{Plan}
-use Rattle.tariff.specs.Units.{zero-units, only}
+use Rattle.tariff.specs.Units.{each, zero-units, only}
 use Rattle.tariff.specs.Plan.{is-prepaid}
-use Rattle.tariff.specs.Charges.{home-charges-of, surcharges-of}
+use Rattle.tariff.specs.Charges.{counted-kb, home-charges-of, surcharges-of}
 use Rattle.presence.specs.declared.Location.{Location}
 use Rattle.presence.specs.declared.Location.the-variants.{Nowhere, At}
 use Rattle.presence.specs.declared.Day.{Day}
@@ -22,7 +26,7 @@ use Rattle.presence.specs.Day.{in-zone, mark-day, add-day, joined}
 use Rattle.presence.specs.Log.{days-of}
 use Rattle.presence.specs.Service.{services-after}
 use Rattle.presence.proofs.Numbers.{days-joined, days-empty}
-use Rattle.metering.specs.Use.{roaming, billed-after, newly-surcharged, basis-after, cost, spent}
+use Rattle.metering.specs.Use.{charged-as, charged-units, billable, roaming, billed-after, newly-surcharged, basis-after, cost, spent}
 use Rattle.metering.specs.Moves.{opened-state, enters, registered, renews, topped, turns-month, next-state-of}
 use Rattle.metering.proofs.Adding.{Worked, spent-worked, home-grows, extra-grows}
 use Rattle.account.specs.declared.Account.{Account}
@@ -32,7 +36,7 @@ use Rattle.account.specs.Whole.{opened, spend, register-at, top-up-by, day-afte
 use Rattle.account.specs.Calls.{accepts, after, step}
 use Rattle.account.proofs.Kept.{within-credit, worked-none}
 use Rattle.ledger.specs.Lists.{run, units-of}
-use Rattle.ledger.specs.Journal.{Entry, Journal, new-journal, place-after, day-next, enter, answered, write, amount-of, paid-in, home-part, zone-part, monthly-kb, billed-units, journal-home, last-place, at-place, comes-in, sets-allowance, changes-month, zone-of-month, zone-since, journal-roamed, marks, marked-on, used-on, day-of, days, last-days, journal-services, new-allowance, journal-allowance, journal-basis, journal-surcharges}
+use Rattle.ledger.specs.Journal.{Entry, Journal, new-journal, place-after, day-next, enter, answered, write, amount-of, paid-in, charged-of, home-part, zone-part, monthly-kb, billed-units, journal-home, last-place, at-place, comes-in, sets-allowance, changes-month, zone-of-month, zone-since, journal-roamed, marks, marked-on, used-on, day-of, days, last-days, journal-services, new-allowance, journal-allowance, journal-basis, journal-surcharges}
 use Rattle.ledger.specs.Demand3.{Shown, entries-of}
 use Rattle.ledger.proofs.Quiet.{of-month-same, billed-quiet, basis-quiet, monthly-quiet, roamed-quiet}
 use Rattle.ledger.proofs.Months.{Upto, nil, cons, upto-suc, monthly-next, roamed-next, turns-is}
@@ -81,7 +85,7 @@ extra-is-shown : (a : Account) (is : List Entry) → Agrees a is → a .state .s
 extra-is-shown a is g = g .worked .extra-is ∙ ap surcharges-of (g .basis-is)
 
 -- the credit after an entry without units is paid in less both charges
-credit-next : (a : Account) (i : Entry) (is : List Entry) → units-of (i .call) ≡ zero-units → Agrees a is
+credit-next : (a : Account) (i : Entry) (is : List Entry) → ((w : Location) → charged-of w (i .call) ≡ zero-units) → Agrees a is
     → a .state .credit + amount-of (i .call) ≡ paid-in (i ∷ is) - (journal-home (a .state .plan) (i ∷ is) + surcharges-of (journal-basis (a .state .plan) is))
 unfolding paid-in
 credit-next a i is e g =
@@ -116,21 +120,21 @@ unfolding renews
 renews-is f w = ap (λ (b : Bool). is-prepaid f && b) (zone-is w)
 
 agrees-register : (a : Account) (q : Place) (is : List Entry) → Agrees a is → Agrees (register-at a q) (entry a (Register q) ∷ is)
-unfolding register-at last-place place-after units-of paid-in amount-of journal-allowance new-allowance sets-allowance changes-month registered
+unfolding register-at last-place place-after units-of charged-of paid-in amount-of journal-allowance new-allowance sets-allowance changes-month registered
 agrees-register a q is g =
     let t : enters (a .state .plan .form) (a .state .place) q ≡ is-prepaid (a .state .plan .form) && comes-in (a .state .place) q = enters-is (a .state .plan .form) (a .state .place) q in
     let i : Entry = entry a (Register q) in
-    let r : journal-roamed (a .state .plan) (a .state .day) (i ∷ is) ≡ cond (is-prepaid (a .state .plan .form) && comes-in (last-place is) q) 0 (journal-roamed (a .state .plan) (a .state .day) is) = roamed-quiet i is refl (a .state .plan) (a .state .day) in
-    let c : a .state .credit + 0 ≡ paid-in (i ∷ is) - (journal-home (a .state .plan) (i ∷ is) + surcharges-of (journal-basis (a .state .plan) is)) = credit-next a i is refl g in
+    let r : journal-roamed (a .state .plan) (a .state .day) (i ∷ is) ≡ cond (is-prepaid (a .state .plan .form) && comes-in (last-place is) q) 0 (journal-roamed (a .state .plan) (a .state .day) is) = roamed-quiet i is (λ w. refl) (a .state .plan) (a .state .day) in
+    let c : a .state .credit + 0 ≡ paid-in (i ∷ is) - (journal-home (a .state .plan) (i ∷ is) + surcharges-of (journal-basis (a .state .plan) is)) = credit-next a i is (λ w. refl) g in
     let z : a .state .credit + 0 ≡ a .state .credit = add-zero _ in
     record {
       place-last = refl;
       started = g .started;
       upto = cons {i = i} (omega arith) (g .upto);
       paid-is = omega (arith, g .paid-is);
-      billed-is = g .billed-is ∙ sym (billed-quiet i is refl _);
-      basis-is = g .basis-is ∙ sym (basis-quiet i is refl _);
-      monthly-is = g .monthly-is ∙ sym (monthly-quiet i is refl _ _);
+      billed-is = g .billed-is ∙ sym (billed-quiet i is (λ w. refl) _);
+      basis-is = g .basis-is ∙ sym (basis-quiet i is (λ w. refl) _);
+      monthly-is = g .monthly-is ∙ sym (monthly-quiet i is (λ w. refl) _ _);
       roamed-is = cc;
       allowance-is = cc;
       today-is = ap (mark-day (At q)) (g .today-is) ∙ day-register is (a .state .day) q;
@@ -142,20 +146,20 @@ agrees-register a q is g =
     }
 
 agrees-top-up : (a : Account) (n : ℕ) (is : List Entry) → Agrees a is → Agrees (top-up-by a n) (entry a (TopUp n) ∷ is)
-unfolding top-up-by last-place place-after units-of paid-in amount-of journal-allowance new-allowance sets-allowance changes-month marks topped
+unfolding top-up-by last-place place-after units-of charged-of paid-in amount-of journal-allowance new-allowance sets-allowance changes-month marks topped
 agrees-top-up a n is g =
     let i : Entry = entry a (TopUp n) in
     let t : renews (a .state .plan .form) (a .state .place) ≡ is-prepaid (a .state .plan .form) && at-place Zone (a .state .place) = renews-is (a .state .plan .form) (a .state .place) in
-    let r : journal-roamed (a .state .plan) (a .state .day) (i ∷ is) ≡ cond (is-prepaid (a .state .plan .form) && at-place Zone (last-place is)) 0 (journal-roamed (a .state .plan) (a .state .day) is) = roamed-quiet i is refl (a .state .plan) (a .state .day) in
-    let c : a .state .credit + n ≡ paid-in (i ∷ is) - (journal-home (a .state .plan) (i ∷ is) + surcharges-of (journal-basis (a .state .plan) is)) = credit-next a i is refl g in
+    let r : journal-roamed (a .state .plan) (a .state .day) (i ∷ is) ≡ cond (is-prepaid (a .state .plan .form) && at-place Zone (last-place is)) 0 (journal-roamed (a .state .plan) (a .state .day) is) = roamed-quiet i is (λ w. refl) (a .state .plan) (a .state .day) in
+    let c : a .state .credit + n ≡ paid-in (i ∷ is) - (journal-home (a .state .plan) (i ∷ is) + surcharges-of (journal-basis (a .state .plan) is)) = credit-next a i is (λ w. refl) g in
     record {
       place-last = refl;
       started = g .started;
       upto = cons {i = i} (omega arith) (g .upto);
       paid-is = omega (arith, g .paid-is);
-      billed-is = g .billed-is ∙ sym (billed-quiet i is refl _);
-      basis-is = g .basis-is ∙ sym (basis-quiet i is refl _);
-      monthly-is = g .monthly-is ∙ sym (monthly-quiet i is refl _ _);
+      billed-is = g .billed-is ∙ sym (billed-quiet i is (λ w. refl) _);
+      basis-is = g .basis-is ∙ sym (basis-quiet i is (λ w. refl) _);
+      monthly-is = g .monthly-is ∙ sym (monthly-quiet i is (λ w. refl) _ _);
       roamed-is = cc;
       allowance-is = cc;
       today-is = g .today-is ∙ day-quiet is (a .state .day) (TopUp n) (a .state .place) refl refl;
@@ -167,7 +171,7 @@ agrees-top-up a n is g =
     }
 
 agrees-afford : (a : Account) (k : Kind) (is : List Entry) → Agrees a is → Agrees a (entry a (Afford k) ∷ is)
-unfolding last-place place-after units-of paid-in amount-of journal-allowance new-allowance sets-allowance changes-month marks
+unfolding last-place place-after units-of charged-of paid-in amount-of journal-allowance new-allowance sets-allowance changes-month marks
 agrees-afford a k is g =
     let i : Entry = entry a (Afford k) in
     record {
@@ -175,10 +179,10 @@ agrees-afford a k is g =
       started = g .started;
       upto = cons {i = i} (omega arith) (g .upto);
       paid-is = omega (arith, g .paid-is);
-      billed-is = g .billed-is ∙ sym (billed-quiet i is refl _);
-      basis-is = g .basis-is ∙ sym (basis-quiet i is refl _);
-      monthly-is = g .monthly-is ∙ sym (monthly-quiet i is refl _ _);
-      roamed-is = g .roamed-is ∙ sym (roamed-quiet i is refl (a .state .plan) (a .state .day));
+      billed-is = g .billed-is ∙ sym (billed-quiet i is (λ w. refl) _);
+      basis-is = g .basis-is ∙ sym (basis-quiet i is (λ w. refl) _);
+      monthly-is = g .monthly-is ∙ sym (monthly-quiet i is (λ w. refl) _ _);
+      roamed-is = g .roamed-is ∙ sym (roamed-quiet i is (λ w. refl) (a .state .plan) (a .state .day));
       allowance-is = g .allowance-is;
       today-is = g .today-is ∙ day-quiet is (a .state .day) (Afford k) (a .state .place) refl refl;
       log-is = log-step a i is refl g;
@@ -209,12 +213,12 @@ module _ (a : Account) (is : List Entry) (g : Agrees a is) where
   services-next = rw (logged-next, log-next) (ap (services-after _ _) (services-step a (entry a NextDay) is refl g))
 
 agrees-next : (a : Account) (is : List Entry) → Agrees a is → Agrees (day-after a) (entry a NextDay ∷ is)
-unfolding day-after last-place place-after units-of paid-in amount-of journal-allowance new-allowance sets-allowance next-state-of
+unfolding day-after last-place place-after units-of charged-of paid-in amount-of journal-allowance new-allowance sets-allowance next-state-of
 agrees-next a is g =
     let i : Entry = entry a NextDay in
     let d : a .state .day + 1 ≡ suc (a .state .day) = add-one (a .state .day) in
-    let m : monthly-kb (a .state .plan) (suc (a .state .day)) (i ∷ is) ≡ cond (turns-month (a .state .plan) (suc (a .state .day))) 0 (monthly-kb (a .state .plan) (a .state .day) is) = monthly-quiet i is refl _ _ ∙ monthly-next _ _ is (g .upto) in
-    let r : journal-roamed (a .state .plan) (suc (a .state .day)) (i ∷ is) ≡ cond (turns-month (a .state .plan) (suc (a .state .day))) 0 (journal-roamed (a .state .plan) (a .state .day) is) = roamed-quiet i is refl _ _ ∙ roamed-next _ _ is (g .upto) in
+    let m : monthly-kb (a .state .plan) (suc (a .state .day)) (i ∷ is) ≡ cond (turns-month (a .state .plan) (suc (a .state .day))) 0 (monthly-kb (a .state .plan) (a .state .day) is) = monthly-quiet i is (λ w. refl) _ _ ∙ monthly-next _ _ is (g .upto) in
+    let r : journal-roamed (a .state .plan) (suc (a .state .day)) (i ∷ is) ≡ cond (turns-month (a .state .plan) (suc (a .state .day))) 0 (journal-roamed (a .state .plan) (a .state .day) is) = roamed-quiet i is (λ w. refl) _ _ ∙ roamed-next _ _ is (g .upto) in
     let t : turns-month (a .state .plan) (suc (a .state .day)) ≡ changes-month (a .state .plan) (a .state .day) NextDay = turns-is (a .state .plan) (a .state .day) in
     let k : suc (a .state .day) - a .state .plan .start ≡ suc (past-days a) = omega (arith, g .started) in
     rw d (record {
@@ -222,8 +226,8 @@ agrees-next a is g =
       started = omega (arith, g .started);
       upto = cons {i = i} (omega arith) (upto-suc (g .upto));
       paid-is = omega (arith, g .paid-is);
-      billed-is = g .billed-is ∙ sym (billed-quiet i is refl _);
-      basis-is = g .basis-is ∙ sym (basis-quiet i is refl _);
+      billed-is = g .billed-is ∙ sym (billed-quiet i is (λ w. refl) _);
+      basis-is = g .basis-is ∙ sym (basis-quiet i is (λ w. refl) _);
       monthly-is = cc;
       roamed-is = cc;
       allowance-is = cc;
@@ -244,10 +248,32 @@ roamed-use p i is e = go (is-prepaid (p .form)) refl
     go true f = rw (f, e)
     go false f = rw (f, of-month-same i (zone-part i .kb))
 
-agrees-use : (a : Account) (k : Kind) (n : ℕ) (is : List Entry) → cost (a .state) (only k n) ≤ a .state .credit → Agrees a is → Agrees (spend a (only k n)) (entry a (Use k n) ∷ is)
+-- what the account charges a record as is what the journal charges it as
+at-least-30 : (b : Bool) (n : ℕ) → ltb n 30 ≡ b → max n 30 ≡ cond b 30 n
+at-least-30 true n e = omega (arith, ltb-true n 30 e)
+at-least-30 false n e = omega (arith, ltb-false n 30 e)
+
+seconds-shown : (w : Location) (n : ℕ) → cond (in-zone w) (max n 30) n ≡ cond (at-place Zone w && ltb n 30) 30 n
+unfolding at-place
+seconds-shown Nowhere n = refl
+seconds-shown (At Home) n = refl
+seconds-shown (At Zone) n = at-least-30 (ltb n 30) n refl
+seconds-shown (At Elsewhere) n = refl
+
+charged-shown : (w : Location) (k : Kind) (n : ℕ) → charged-units w k n ≡ charged-of w (Use k n)
+unfolding charged-units charged-as charged-of
+charged-shown w Data n = refl
+charged-shown w Outgoing n = ap (λ (x : ℕ). each 0 x 0 0) (seconds-shown w n)
+charged-shown w Incoming n = refl
+charged-shown w Sms n = refl
+
+agrees-use : (a : Account) (k : Kind) (n : ℕ) (is : List Entry) → cost (a .state) (charged-units (a .state .place) k n) ≤ a .state .credit → Agrees a is
+    → Agrees (spend a (only k n) (charged-units (a .state .place) k n)) (entry a (Use k n) ∷ is)
 unfolding spend last-place place-after units-of paid-in amount-of journal-allowance new-allowance sets-allowance changes-month billed-units billed-after journal-basis basis-after newly-surcharged home-part zone-part monthly-kb cost spent
 agrees-use a k n is h g =
     let i : Entry = entry a (Use k n) in
+    let c : Units = charged-units (a .state .place) k n in
+    let q : charged-units (a .state .place) k n ≡ charged-of (a .state .place) (Use k n) = charged-shown (a .state .place) k n in
     record {
       place-last = refl;
       started = g .started;
@@ -255,15 +281,15 @@ agrees-use a k n is h g =
       paid-is = omega (arith, g .paid-is);
       billed-is = cc;
       basis-is = cc;
-      monthly-is = ap₂ _+_ (g .monthly-is) (sym (of-month-same i _));
-      roamed-is = ap (λ (x : ℕ). x + roaming (a .state .place) (only k n) .kb) (g .roamed-is) ∙ sym (roamed-use (a .state .plan) i is refl);
+      monthly-is = ap₂ _+_ (g .monthly-is) (ap (λ (x : Units). counted-kb (a .state .plan .form) (billable (a .state .place) x .kb)) q ∙ sym (of-month-same i _));
+      roamed-is = ap₂ _+_ (g .roamed-is) (ap (λ (x : Units). roaming (a .state .place) x .kb) q) ∙ sym (roamed-use (a .state .plan) i is refl);
       allowance-is = g .allowance-is;
       today-is = ap (λ (d : Day). add-day (a .state .place) (only k n) (mark-day (a .state .place) d)) (g .today-is) ∙ day-use is (a .state .day) k n (a .state .place);
       log-is = log-step a i is refl g;
       logged-is = g .logged-is;
       services-is = services-step a i is refl g;
-      worked = spent-worked (a .state) (only k n) (only k n) (only k n) (only k n);
-      balance = omega (arith, h, g .balance, home-grows (a .state) (only k n) (g .worked), extra-grows (a .state) (only k n) (g .worked));
+      worked = spent-worked (a .state) (only k n) c (only k n) c;
+      balance = omega (arith, h, g .balance, home-grows (a .state) c (g .worked), extra-grows (a .state) c (g .worked));
     }
 
 agrees-after : (a : Account) (c : Call) (is : List Entry) → accepts a c ≡ true → Agrees a is → Agrees (after a c) (entry a c ∷ is)

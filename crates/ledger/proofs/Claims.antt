@@ -1,7 +1,8 @@
--- Demand 3, the match from any sound account, and that a sound one stays sound. Assumes nothing.
+-- Demand 3, the match from any sound account, that a sound one stays sound, and what a match compares. Assumes nothing.
 use mathlib.Core.Path.{_≡_, refl, sym, _∙_, ap, subst}
-use mathlib.Core.Bool.{true}
+use mathlib.Core.Bool.{Bool, true, false, cond, _&&_}
 use mathlib.Core.List.{List, [], _∷_}
+use lib.ListN.{length, getD}
 use Rattle.tariff.specs.declared.Plan.{Plan}
 use Rattle.tariff.specs.declared.Verdict.the-variants.{Accepted}
 use Rattle.tariff.specs.Tests.{is-accepted}
@@ -10,12 +11,15 @@ use Rattle.account.specs.declared.Account.{Account}
 use Rattle.account.specs.declared.Answered.{Answered}
 use Rattle.account.specs.declared.Call.{Call}
 use Rattle.account.specs.Whole.{sound, opened}
-use Rattle.account.specs.Calls.{step}
+use Rattle.account.specs.Calls.{accepts, step}
 use Rattle.account.specs.Answers.{open-answer}
 use Rattle.account.proofs.Kept.{Sound, sound-tells, sound-passes, sound-step, sound-opened}
-use Rattle.ledger.specs.Lists.{run, accepted}
-use Rattle.ledger.specs.Demand3.{Demand3, MatchesFromSound, SoundStaysSound, Matches, OpensAs, Shown, entries-of}
-use Rattle.ledger.proofs.Match.{matching}
+use Rattle.machine.specs.Machine as machine
+use Rattle.machine.specs.Machine.{accepted, boundaries, snapshots, cuts}
+use Rattle.machine.proofs.Lengths.{one-more}
+use Rattle.ledger.specs.Lists.{run, is-boundary, taken, account-calls}
+use Rattle.ledger.specs.Demand3.{Demand3, MatchesFromSound, SoundStaysSound, OneMoreThanCuts, EndIsCompared, Matches, OpensAs, Shown, entries-of}
+use Rattle.ledger.proofs.Match.{account-matches}
 use Rattle.ledger.proofs.Book.{balanced}
 
 sound-run : (a : Account) (cs : List Call) → Sound a → Sound (run a cs)
@@ -46,7 +50,7 @@ opened-sound p a e =
     sound-passes (opened p) (sound-opened p b)
 
 pub matches-from-sound : MatchesFromSound
-matches-from-sound a s xs ys e = matching a (sound-tells a s .money .worked) xs ys e
+matches-from-sound a s xs ys e = account-matches a (sound-tells a s .money .worked) xs ys e
 
 pub demand-3 : Demand3
 demand-3 p a b e f xs ys =
@@ -59,3 +63,21 @@ demand-3 p a b e f xs ys =
       shown = subst (λ (z : Account). Shown p (run z xs) (entries-of p z xs)) x (balanced p xs);
       stays-sound = sound-stays-sound a s xs;
     }
+
+pub one-more-than-cuts : OneMoreThanCuts
+one-more-than-cuts a cs = one-more account-calls a cs
+
+-- call by call: a cut puts its account in front, and every other call leaves both lists as they are
+pub end-is-compared : EndIsCompared
+unfolding run step snapshots accepted boundaries machine.step
+end-is-compared a b [] = refl
+end-is-compared a b (c ∷ cs) = go (accepts a c) (is-boundary c) refl (end-is-compared (step a c) b cs)
+  where
+    go : (p q : Bool) → is-boundary c ≡ q
+        → getD (snapshots account-calls (step a c) cs) (length (cuts account-calls (step a c) cs)) b ≡ run (step a c) cs
+        → getD (cond (p && q) (a ∷ snapshots account-calls (step a c) cs) (snapshots account-calls (step a c) cs))
+        (length (boundaries account-calls (cond p (record { call = c; units = taken a c } ∷ accepted account-calls (step a c) cs) (accepted account-calls (step a c) cs)))) b
+        ≡ run (step a c) cs
+    go false q e h = h
+    go true true e h = rw e h
+    go true false e h = rw e h

@@ -4,5 +4,4 @@ pub mod Months
 pub mod Days
 pub mod Book
 pub mod Claims
-pub mod Lengths
 pub mod Example

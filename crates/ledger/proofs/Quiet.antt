@@ -27,8 +27,7 @@ use Rattle.presence.specs.declared.Services.{Services}
 use Rattle.metering.specs.Use.{billable, roaming, billed-of, surcharged-of, surcharged-units}
 use Rattle.account.specs.declared.Call.{Call}
 use Rattle.account.specs.declared.Call.the-variants.{Register, Use, TopUp, NextDay, Afford}
-use Rattle.ledger.specs.Lists.{units-of}
-use Rattle.ledger.specs.Journal.{Entry, home-part, zone-part, of-month, monthly-kb, billed-units, last-place, sets-allowance, zone-of-month, zone-since, journal-roamed, journal-basis}
+use Rattle.ledger.specs.Journal.{Entry, charged-of, home-part, zone-part, of-month, monthly-kb, billed-units, last-place, sets-allowance, zone-of-month, zone-since, journal-roamed, journal-basis}
 
 -- no units: nothing is priced, surcharged or counted
 billable-none : (w : Location) → billable w zero-units ≡ zero-units
@@ -115,7 +114,7 @@ sets-prepaid f w (TopUp n) e = rw e
 sets-prepaid f w NextDay e = refl
 sets-prepaid f w (Afford k) e = refl
 
-module _ (i : Entry) (is : List Entry) (e : units-of (i .call) ≡ zero-units) where
+module _ (i : Entry) (is : List Entry) (e : (w : Location) → charged-of w (i .call) ≡ zero-units) where
   home-none : home-part i ≡ zero-units
   unfolding home-part
   home-none = rw e (billable-none (i .place))

@@ -1,17 +1,17 @@
 -- Demand 3 as one claim about whole lists of calls. Assumes nothing.
-use Prim.Native.Nat.{ℕ, _+_, _-_}
+use Prim.Native.Nat.{_+_, _-_}
 use mathlib.Core.Path.{_≡_}
-use mathlib.Core.Bool.{Bool, true}
-use mathlib.Core.Logic.{_↔_}
+use mathlib.Core.Bool.{true}
 use mathlib.Core.List.{List}
-use lib.ListN.{length}
+use lib.ListN.{length, getD}
 use Rattle.tariff.specs.declared.Plan.{Plan}
 use Rattle.tariff.specs.declared.Verdict.the-variants.{Accepted}
 use Rattle.account.specs.declared.Account.{Account}
 use Rattle.account.specs.declared.Call.{Call}
 use Rattle.account.specs.Whole.{sound}
 use Rattle.account.specs.Answers.{open-answer}
-use Rattle.ledger.specs.Lists.{run, accepted, boundaries, segments, snapshots}
+use Rattle.machine.specs.Machine as machine
+use Rattle.ledger.specs.Lists.{run, account-calls}
 use Rattle.ledger.specs.Journal.{Entry, new-journal, answered, write, paid-in, journal-home, journal-surcharges}
 
 -- "accepted by Open": Open answers that it accepts the plan, and hands out the account
@@ -32,11 +32,9 @@ pub record Shown (p : Plan) (a : Account) (es : List Entry) : Type 0 where
   pub balance : a .state .paid ≡ a .state .credit + a .state .homecharges + a .state .surcharges
 
 -- two accounts and a list of calls on each, with "the same accepted cuts in the same order": equal just before every cut and at the end exactly
--- when the accepted units of each kind agree in every stretch
+-- when the accepted units of each kind and, by 02, 3/13, the charged seconds agree in every stretch
 abbrev pub Matches : Account → Account → List Call → List Call → Type 0
-Matches a b xs ys =
-    boundaries (accepted a xs) ≡ boundaries (accepted b ys)
-    → (snapshots a xs ≡ snapshots b ys) ↔ (segments (accepted a xs) ≡ segments (accepted b ys))
+Matches a b xs ys = machine.Matches account-calls a b xs ys
 
 -- what holds of two accounts opened alike, under the plan p, and a list of calls on each
 pub record Claim (p : Plan) (a b : Account) (xs ys : List Call) : Type 0 where
@@ -57,11 +55,11 @@ MatchesFromSound = (a : Account) → sound a ≡ true → (xs ys : List Call) �
 abbrev pub SoundStaysSound : Type 0
 SoundStaysSound = (a : Account) → sound a ≡ true → (cs : List Call) → sound (run a cs) ≡ true
 
--- a list has one stretch more than cuts, and one account for each cut and for the end
-pub record OneMore (a : Account) (cs : List Call) : Type 0 where
-  pub stretches : length (segments (accepted a cs)) ≡ length (boundaries (accepted a cs)) + 1
-  pub accounts : length (snapshots a cs) ≡ length (boundaries (accepted a cs)) + 1
-
--- so the lists that a match compares are as long as each other where the cuts agree
+-- a list has one stretch more than cuts, and one account for each cut and for the end: so the lists that a match compares are as long as each other
+-- where the cuts agree
 abbrev pub OneMoreThanCuts : Type 0
-OneMoreThanCuts = (a : Account) (cs : List Call) → OneMore a cs
+OneMoreThanCuts = (a : Account) (cs : List Call) → machine.OneMore account-calls a cs
+
+-- the last account that a match compares, after as many others as there are cuts, is the one that the list leads to
+abbrev pub EndIsCompared : Type 0
+EndIsCompared = (a b : Account) (cs : List Call) → getD (machine.snapshots account-calls a cs) (length (machine.cuts account-calls a cs)) b ≡ run a cs

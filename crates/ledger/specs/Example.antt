@@ -1,16 +1,19 @@
--- Why the match is about the accounts before all cuts and at the end together: two lists whose accounts at the end say nothing of their stretches.
--- Assumes nothing.
+-- Why the match is about the accounts before all cuts and at the end together: two lists whose accounts at the end say nothing of their stretches. And why
+-- it is about charged seconds beside units: two lists with the same units, whose accounts differ. Assumes nothing.
+use Prim.Native.Nat.{ℕ}
 use mathlib.Core.Path.{_≡_}
 use mathlib.Core.List.{List, [], _∷_}
-use Rattle.tariff.specs.declared.Kind.the-variants.{Data}
+use Rattle.tariff.specs.declared.Units.{Units}
+use Rattle.tariff.specs.declared.Kind.the-variants.{Data, Outgoing}
 use Rattle.tariff.specs.declared.Form.the-variants.{Unlimited}
-use Rattle.tariff.specs.declared.Place.the-variants.{Home}
+use Rattle.tariff.specs.declared.Place.the-variants.{Home, Zone}
 use Rattle.tariff.specs.declared.Plan.{Plan}
 use Rattle.account.specs.declared.Account.{Account}
 use Rattle.account.specs.declared.Call.{Call}
 use Rattle.account.specs.declared.Call.the-variants.{Register, Use}
 use Rattle.account.specs.Whole.{opened}
-use Rattle.ledger.specs.Lists.{run, accepted, boundaries, segments}
+use Rattle.machine.specs.Machine.{cuts, stretches}
+use Rattle.ledger.specs.Lists.{run, Taken, account-calls}
 use Rattle.ledger.specs.Demand3.{OpensAs}
 
 -- a bundle without volume limit, at no price
@@ -27,11 +30,35 @@ used-after = Register Home ∷ Register Home ∷ Use Data 1 ∷ []
 
 -- the cuts are the same and the accounts at the end are equal in every field, yet the stretches differ
 pub record EndsAlike (a : Account) (xs ys : List Call) : Type 0 where
-  pub cuts : boundaries (accepted a xs) ≡ boundaries (accepted a ys)
-  pub ends : run a xs ≡ run a ys
-  pub differ : segments (accepted a xs) ≡ segments (accepted a ys) → ⊥
+  pub same-cuts : cuts account-calls a xs ≡ cuts account-calls a ys
+  pub same-ends : run a xs ≡ run a ys
+  pub other-stretches : stretches account-calls a xs ≡ stretches account-calls a ys → ⊥
 
 -- so neither the end alone nor the accounts before some of the cuts tell whether the stretches up to there agree
 pub record EndIsNotEnough : Type 0 where
   pub opens : OpensAs free-plan (opened free-plan)
   pub alike : EndsAlike (opened free-plan) used-between used-after
+
+-- 02, 3/13: two calls in the zone, one of them under half a minute
+abbrev pub short-and-long : List Call
+short-and-long = Register Zone ∷ Use Outgoing 20 ∷ Use Outgoing 40 ∷ []
+
+-- two calls of half a minute: as many seconds
+abbrev pub two-halves : List Call
+two-halves = Register Zone ∷ Use Outgoing 30 ∷ Use Outgoing 30 ∷ []
+
+-- the units of each stretch, without the charged seconds
+unfoldable pub units-alone : List Taken → List Units
+units-alone [] = []
+units-alone (t ∷ ts) = t .units ∷ units-alone ts
+
+-- cuts and units agree, stretch by stretch, yet the accounts at the end hold x and y charged seconds
+pub record UnitsAlike (a : Account) (xs ys : List Call) (x y : ℕ) : Type 0 where
+  pub same-cuts : cuts account-calls a xs ≡ cuts account-calls a ys
+  pub same-units : units-alone (stretches account-calls a xs) ≡ units-alone (stretches account-calls a ys)
+  pub first-charged : run a xs .state .chargedseconds ≡ x
+  pub second-charged : run a ys .state .chargedseconds ≡ y
+
+-- so a match by the units alone would be false: 70 charged seconds against 60
+abbrev pub UnitsAreNotEnough : Type 0
+UnitsAreNotEnough = UnitsAlike (opened free-plan) short-and-long two-halves 70 60

@@ -4,16 +4,17 @@ use Prim.Native.Nat.{ℕ, zero, suc, _+_, _-_, min}
 use mathlib.Core.Bool.{Bool, true, false, not, cond, _&&_, _||_}
 use mathlib.Core.List.{List, [], _∷_, _++_}
 use lib.ListN.{take, replicate}
-use lib.Dec.{eqb}
+use lib.Dec.{eqb, ltb}
 use Rattle.calendar.specs.Calendar.{month-of}
 use Rattle.tariff.specs.declared.Units.{Units}
+use Rattle.tariff.specs.declared.Kind.the-variants.{Data, Outgoing, Incoming, Sms}
 use Rattle.tariff.specs.declared.Place.{Place}
 use Rattle.tariff.specs.declared.Place.the-variants.{Home, Zone, Elsewhere}
 use Rattle.tariff.specs.declared.Form.{Form}
 use Rattle.tariff.specs.declared.Form.the-variants.{Prepaid}
 use Rattle.tariff.specs.declared.Plan.{Plan}
 use Rattle.tariff.specs.declared.Allowance.{Allowance}
-use Rattle.tariff.specs.Units.{zero-units, _⊕_, _⊗_}
+use Rattle.tariff.specs.Units.{each, zero-units, _⊕_, _⊗_}
 use Rattle.tariff.specs.Caps.{built-in, caps-on}
 use Rattle.tariff.specs.Plan.{is-prepaid, credit-allowance, plan-allowance}
 use Rattle.tariff.specs.Charges.{counted-kb, home-charges-of, surcharges-of}
@@ -94,13 +95,38 @@ unfoldable pub paid-in : List Entry → ℕ
 paid-in [] = 0
 paid-in (e ∷ es) = paid-in es + amount-of (e .call)
 
+-- the location is the place
+unfoldable pub at-place : Place → Location → Bool
+at-place p Nowhere = false
+at-place Home (At Home) = true
+at-place Home (At Zone) = false
+at-place Home (At Elsewhere) = false
+at-place Zone (At Home) = false
+at-place Zone (At Zone) = true
+at-place Zone (At Elsewhere) = false
+at-place Elsewhere (At Home) = false
+at-place Elsewhere (At Zone) = false
+at-place Elsewhere (At Elsewhere) = true
+
+-- 02, 3/13: the units that an item pays for, told from its place and n by the book itself: an outgoing call in the zone that ended before 30 seconds were
+-- over pays for 30, and everything else for what was used
+unfoldable pub charged-of : Location → Call → Units
+charged-of w (Register q) = zero-units
+charged-of w (Use Data n) = each n 0 0 0
+charged-of w (Use Outgoing n) = each 0 (cond (at-place Zone w && ltb n 30) 30 n) 0 0
+charged-of w (Use Incoming n) = each 0 0 n 0
+charged-of w (Use Sms n) = each 0 0 0 n
+charged-of w (TopUp n) = zero-units
+charged-of w NextDay = zero-units
+charged-of w (Afford k) = zero-units
+
 -- an entry's units that a home price can bear on
 unfoldable pub home-part : Entry → Units
-home-part e = billable (e .place) (units-of (e .call))
+home-part e = billable (e .place) (charged-of (e .place) (e .call))
 
 -- an entry's zone units
 unfoldable pub zone-part : Entry → Units
-zone-part e = roaming (e .place) (units-of (e .call))
+zone-part e = roaming (e .place) (charged-of (e .place) (e .call))
 
 -- n where the entry is of the day's month, else 0: months told apart by their number, not by the first days
 unfoldable pub of-month : ℕ → Entry → ℕ → ℕ
@@ -124,19 +150,6 @@ journal-home p es = home-charges-of p (billed-units p es)
 unfoldable pub last-place : List Entry → Location
 last-place [] = Nowhere
 last-place (e ∷ es) = e .place
-
--- the location is the place
-unfoldable pub at-place : Place → Location → Bool
-at-place p Nowhere = false
-at-place Home (At Home) = true
-at-place Home (At Zone) = false
-at-place Home (At Elsewhere) = false
-at-place Zone (At Home) = false
-at-place Zone (At Zone) = true
-at-place Zone (At Elsewhere) = false
-at-place Elsewhere (At Home) = false
-at-place Elsewhere (At Zone) = false
-at-place Elsewhere (At Elsewhere) = true
 
 -- a registration comes into the zone from another place or none
 unfoldable pub comes-in : Location → Place → Bool
@@ -187,7 +200,7 @@ unfoldable pub marked-on : ℕ → Place → List Entry → Bool
 marked-on d p [] = false
 marked-on d p (e ∷ es) = (eqb (e .day) d && (marks (e .call) && at-place p (e .place))) || marked-on d p es
 
--- a day's units at a place
+-- a day's units at a place; seconds are those spoken, by which 02, 3/13, has prevalence decided
 unfoldable pub used-on : ℕ → Place → List Entry → Units
 used-on d p [] = zero-units
 used-on d p (e ∷ es) = cond (eqb (e .day) d && at-place p (e .place)) (used-on d p es ⊕ units-of (e .call)) (used-on d p es)

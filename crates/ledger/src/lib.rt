@@ -1,6 +1,6 @@
 // Lists of calls and the book: claims about whole lists of calls, stated in specs/Demand3.antt.
-ghost use Rattle.ledger.specs.Demand3.{Demand3, MatchesFromSound, SoundStaysSound, OneMoreThanCuts};
-ghost use Rattle.ledger.specs.Example.{EndIsNotEnough};
+ghost use Rattle.ledger.specs.Demand3.{Demand3, MatchesFromSound, SoundStaysSound, OneMoreThanCuts, EndIsCompared};
+ghost use Rattle.ledger.specs.Example.{EndIsNotEnough, UnitsAreNotEnough};
 
 // Demand 3: two accounts opened alike match exactly when their stretches do, and the book shows each account's money.
 pub fn demand_3()
@@ -22,7 +22,17 @@ pub fn one_more_than_cuts()
     ensures { λ _. ⌜ OneMoreThanCuts ⌝ }
 {}
 
+// The last account that a match compares is the one that the list leads to.
+pub fn end_is_compared()
+    ensures { λ _. ⌜ EndIsCompared ⌝ }
+{}
+
 // Equal accounts at the end say nothing of the stretches: two lists that show it.
 pub fn end_is_not_enough()
     ensures { λ _. ⌜ EndIsNotEnough ⌝ }
+{}
+
+// Equal units in every stretch say nothing of the charged seconds, by which accounts differ: two lists that show it.
+pub fn units_are_not_enough()
+    ensures { λ _. ⌜ UnitsAreNotEnough ⌝ }
 {}

@@ -134,6 +134,7 @@ module _ (a : State) (u c v d : Units) where
     homecharges = home-add i;
     surcharges = extra-add i;
     lifetime = ⊕-assoc (a .lifetime) u v i;
+    chargedseconds = add-assoc (a .chargedseconds) (c .outgoing) (d .outgoing) i;
     billed = billed-add i;
     surcharged = (⊕-assoc (a .surcharged) (newly-surcharged a c) (newly-surcharged (spent a u c) d) ∙ ap (λ (x : Units). a .surcharged ⊕ x) surcharged-add) i;
     basis = basis-add i;

@@ -5,7 +5,7 @@ use native.Mathlib.Nat.{mul-le-mul}
 use native.Mathlib.Omega.{arith}
 use Rattle.tariff.specs.declared.Units.{Units}
 use Rattle.tariff.specs.declared.Place.the-variants.{Home, Zone, Elsewhere}
-use Rattle.tariff.specs.Units.{each, _⊗_, AtMost, Adds, Multiplies}
+use Rattle.tariff.specs.Units.{each, _⊕_, _⊗_, AtMost, Adds, Multiplies}
 use Rattle.tariff.specs.Caps.{built-in, caps-on}
 use Rattle.tariff.specs.Charges.{counted-kb, PriceFits, BasisFits}
 use Rattle.tariff.proofs.Tables.{caps-bound}
@@ -14,6 +14,7 @@ use Rattle.presence.specs.declared.Location.{Location}
 use Rattle.presence.specs.declared.Location.the-variants.{Nowhere, At}
 use Rattle.presence.specs.declared.Day.{Day}
 use Rattle.presence.specs.Day.{mark-day, day-units, DayAdds}
+use Rattle.presence.specs.Log.{lifetime-most}
 use Rattle.metering.specs.declared.State.{State}
 use Rattle.metering.specs.declared.Bill.{Bill}
 use Rattle.metering.specs.Use.{billable, roaming, billed-of, billed-after, newly-surcharged, basis-after, home-after, extra-after, cost}
@@ -33,7 +34,7 @@ products : (c x : Units) → AtMost c (each 20000 20000 20000 20000) → AtMost 
 products c x l f = omega (arith, mul-le-mul (l .kb) (f .kb), mul-le-mul (l .outgoing) (f .outgoing), mul-le-mul (l .incoming) (f .incoming), mul-le-mul (l .sms) (f .sms))
 
 basis-in : (a : State) → Figures a → AtMost (a .basis) (each 20000000000000000 20000000000000000 20000000000000000 20000000000000000)
-basis-in a f = omega (arith, f .basis-ok, f .surcharged-ok, f .lifetime-ok)
+basis-in a f = omega (arith, f .basis-ok, f .surcharged-ok, f .lifetime-ok, f .charged-ok)
 
 module _ (a : State) (u : Units) (r : Ready a u) where
   share : AtMost (caps-on built-in (a .day) ⊗ newly-surcharged a u) (each 20000000000000 20000000000000 20000000000000 20000000000000)
@@ -61,9 +62,6 @@ module _ (a : State) (u : Units) (r : Ready a u) where
   pub surcharged-sum : Adds (a .surcharged) (newly-surcharged a u)
   surcharged-sum = let f = figures-tell a (r .figures) in omega (arith, r .room, newly-bounded a u, f .surcharged-ok)
 
-  pub lifetime-sum : Adds (a .lifetime) u
-  lifetime-sum = omega (arith, r .room)
-
 -- the charges of a use, on a sound account
 pub record Grown (a : State) (b : Bill) : Type 0 where
   pub homes : a .homecharges ≤ b .home
@@ -89,8 +87,8 @@ marked-sum (At Home) d u l h a = record { home-adds = omega (arith, h); zone-add
 marked-sum (At Zone) d u l h a = record { home-adds = omega (arith, h); zone-adds = omega (arith, h); outside-adds = omega (arith, h) }
 marked-sum (At Elsewhere) d u l h a = record { home-adds = omega (arith, h); zone-adds = omega (arith, h); outside-adds = omega (arith, h) }
 
-pub today-sum : (a : State) (u : Units) → Steady a → Ready a u → DayAdds (mark-day (a .place) (a .today)) u
-today-sum a u s r = marked-sum (a .place) (a .today) u (a .lifetime) (s .today) (lifetime-sum a u r)
+pub today-sum : (a : State) (u : Units) → Steady a → AtMost (a .lifetime ⊕ u) lifetime-most → DayAdds (mark-day (a .place) (a .today)) u
+today-sum a u s r = marked-sum (a .place) (a .today) u (a .lifetime) (s .today) (omega (arith, r))
 
 pub record Counted (a : State) (u : Units) : Type 0 where
   pub month : a .monthly + counted-kb (a .plan .form) (billable (a .place) u .kb) ≤ 1000000000000

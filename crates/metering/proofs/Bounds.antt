@@ -1,13 +1,16 @@
 -- What a use adds is at most its units. Assumes nothing.
-use Prim.Native.Nat.{ℕ, _≤_}
+use Prim.Native.Nat.{ℕ, _≤_, max}
 use native.Mathlib.Omega.{arith}
 use mathlib.Core.Path.{_≡_, refl}
-use mathlib.Core.Bool.{cond}
+use mathlib.Core.Bool.{Bool, true, false, cond}
 use Rattle.tariff.specs.declared.Units.{Units}
+use Rattle.tariff.specs.declared.Kind.{Kind}
+use Rattle.tariff.specs.declared.Kind.the-variants.{Data, Outgoing, Incoming, Sms}
 use Rattle.tariff.specs.declared.Place.the-variants.{Home, Zone, Elsewhere}
 use Rattle.tariff.specs.declared.Plan.{Plan}
 use Rattle.tariff.specs.declared.Allowance.{Allowance}
-use Rattle.tariff.specs.Units.{zero-units, AtMost}
+use Rattle.tariff.specs.Units.{each, zero-units, only, AtMost}
+use Rattle.tariff.proofs.Sums.{only-order}
 use Rattle.tariff.proofs.Charges.{billed-bounded, after-allowance-bounded}
 use Rattle.presence.specs.declared.Location.{Location}
 use Rattle.presence.specs.declared.Location.the-variants.{Nowhere, At}
@@ -16,8 +19,51 @@ use Rattle.presence.specs.declared.ServiceState.the-variants.{Clear, Warned, Su
 use Rattle.presence.specs.declared.Services.{Services}
 use Rattle.presence.specs.Day.{in-zone}
 use Rattle.metering.specs.declared.State.{State}
-use Rattle.metering.specs.Use.{billable, roaming, billed-of, surcharged-of, surcharged-units, newly-surcharged}
+use Rattle.metering.specs.Use.{charged-as, charged-units, with-seconds, billable, roaming, billed-of, surcharged-of, surcharged-units, newly-surcharged}
 use Rattle.metering.specs.Needs.{bears}
+
+-- what a record is charged as
+either-grows : (b : Bool) (m n : ℕ) → m ≤ n → cond b (max m 30) m ≤ cond b (max n 30) n
+either-grows true m n h = omega arith
+either-grows false m n h = h
+
+either-few : (b : Bool) (n : ℕ) → n ≤ 1000000000 → cond b (max n 30) n ≤ 1000000000
+either-few true n h = omega arith
+either-few false n h = h
+
+charged-grow : (w : Location) (k : Kind) (m n : ℕ) → m ≤ n → charged-as w k m ≤ charged-as w k n
+unfolding charged-as
+charged-grow w Data m n h = h
+charged-grow w Outgoing m n h = either-grows (in-zone w) m n h
+charged-grow w Incoming m n h = h
+charged-grow w Sms m n h = h
+
+pub charged-few : (w : Location) (k : Kind) (n : ℕ) → n ≤ 1000000000 → charged-as w k n ≤ 1000000000
+unfolding charged-as
+charged-few w Data n h = h
+charged-few w Outgoing n h = either-few (in-zone w) n h
+charged-few w Incoming n h = h
+charged-few w Sms n h = h
+
+-- more units are charged as more
+pub charged-order : (w : Location) (k : Kind) (m n : ℕ) → m ≤ n → AtMost (charged-units w k m) (charged-units w k n)
+unfolding charged-units
+charged-order w k m n h = only-order k _ _ (charged-grow w k m n h)
+
+-- but for outgoing seconds a record is charged as its units
+pub charged-is : (w : Location) (k : Kind) (n : ℕ) → charged-units w k n ≡ with-seconds (only k n) (charged-units w k n .outgoing)
+unfolding charged-units charged-as
+charged-is w Data n = refl
+charged-is w Outgoing n = refl
+charged-is w Incoming n = refl
+charged-is w Sms n = refl
+
+pub charged-kinds : (w : Location) (k : Kind) (n : ℕ) → AtMost (charged-units w k n) (with-seconds (only k n) (charged-units w k n .outgoing))
+unfolding charged-units charged-as
+charged-kinds w Data n = omega arith
+charged-kinds w Outgoing n = omega arith
+charged-kinds w Incoming n = omega arith
+charged-kinds w Sms n = omega arith
 
 pub billable-bounded : (w : Location) (u : Units) → AtMost (billable w u) u
 unfolding billable

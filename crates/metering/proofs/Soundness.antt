@@ -13,7 +13,7 @@ use Rattle.tariff.proofs.Sums.{fits-tells, fits-yes}
 use Rattle.tariff.proofs.Plans.{Ranged, plan-ranged, opens-tells}
 use Rattle.presence.specs.Log.{lifetime-most}
 use Rattle.metering.specs.declared.State.{State}
-use Rattle.metering.specs.Sound.{allowance-fits, warning-fits, figures-sound, charges-sound}
+use Rattle.metering.specs.Sound.{allowance-fits, chargeable, warning-fits, figures-sound, charges-sound}
 use Rattle.metering.proofs.Adding.{Worked}
 
 -- the single figures
@@ -22,11 +22,12 @@ pub record Figures (a : State) : Type 0 where
   pub started : a .plan .start ≤ a .day
   pub day-ok : a .day ≤ 3833
   pub lifetime-ok : AtMost (a .lifetime) lifetime-most
+  pub charged-ok : a .chargedseconds ≤ 1000000000000
   pub paid-ok : a .paid ≤ 1000000000
   pub roamed-ok : a .roamed ≤ a .lifetime .kb
   pub monthly-ok : a .monthly ≤ a .lifetime .kb
-  pub billed-ok : AtMost (a .billed) (a .lifetime)
-  pub surcharged-ok : AtMost (a .surcharged) (a .lifetime)
+  pub billed-ok : AtMost (a .billed) (chargeable a)
+  pub surcharged-ok : AtMost (a .surcharged) (chargeable a)
   pub basis-ok : AtMost (a .basis) (each 20000 20000 20000 20000 ⊗ a .surcharged)
   pub allowance-ok : allowance-fits (a .allowance) ≡ true
   pub logged-ok : a .logged ≡ min 123 (a .day - a .plan .start)
@@ -51,22 +52,24 @@ figures-tell a e =
     let e12 = all-tail _ _ e11 in
     let e13 = all-tail _ _ e12 in
     let e14 = all-tail _ _ e13 in
+    let e15 = all-tail _ _ e14 in
     record {
       plan-ok = all-head _ _ e;
       started = leb-true _ _ (all-head _ _ e1);
       day-ok = leb-true _ _ (all-head _ _ e2);
       lifetime-ok = fits-tells _ _ (all-head _ _ e3);
-      paid-ok = leb-true _ _ (all-head _ _ e4);
-      roamed-ok = leb-true _ _ (all-head _ _ e5);
-      monthly-ok = leb-true _ _ (all-head _ _ e6);
-      billed-ok = fits-tells _ _ (all-head _ _ e7);
-      surcharged-ok = fits-tells _ _ (all-head _ _ e8);
-      basis-ok = fits-tells _ _ (all-head _ _ e9);
-      allowance-ok = all-head _ _ e10;
-      logged-ok = eqb-true _ _ (all-head _ _ e11);
-      internet-ok = all-head _ _ e12;
-      calls-ok = all-head _ _ e13;
-      messages-ok = all-head _ _ e14;
+      charged-ok = leb-true _ _ (all-head _ _ e4);
+      paid-ok = leb-true _ _ (all-head _ _ e5);
+      roamed-ok = leb-true _ _ (all-head _ _ e6);
+      monthly-ok = leb-true _ _ (all-head _ _ e7);
+      billed-ok = fits-tells _ _ (all-head _ _ e8);
+      surcharged-ok = fits-tells _ _ (all-head _ _ e9);
+      basis-ok = fits-tells _ _ (all-head _ _ e10);
+      allowance-ok = all-head _ _ e11;
+      logged-ok = eqb-true _ _ (all-head _ _ e12);
+      internet-ok = all-head _ _ e13;
+      calls-ok = all-head _ _ e14;
+      messages-ok = all-head _ _ e15;
     }
 
 pub figures-pass : (a : State) → Figures a → figures-sound a ≡ true
@@ -76,6 +79,7 @@ figures-pass a s =
     (all-cons _ _ (le-leb _ _ (s .started))
     (all-cons _ _ (le-leb _ _ (s .day-ok))
     (all-cons _ _ (fits-yes _ _ (s .lifetime-ok))
+    (all-cons _ _ (le-leb _ _ (s .charged-ok))
     (all-cons _ _ (le-leb _ _ (s .paid-ok))
     (all-cons _ _ (le-leb _ _ (s .roamed-ok))
     (all-cons _ _ (le-leb _ _ (s .monthly-ok))
@@ -86,7 +90,7 @@ figures-pass a s =
     (all-cons _ _ (eq-eqb _ _ (s .logged-ok))
     (all-cons _ _ (s .internet-ok)
     (all-cons _ _ (s .calls-ok)
-    (all-cons _ _ (s .messages-ok) all-nil))))))))))))))
+    (all-cons _ _ (s .messages-ok) all-nil)))))))))))))))
 
 -- the charges and the balance
 pub record Balanced (a : State) : Type 0 where
@@ -112,7 +116,7 @@ pub plan-of-state : (a : State) → Figures a → Ranged (a .plan)
 plan-of-state a f = plan-ranged (a .plan) (opens-tells (a .plan) (f .plan-ok) .ranges)
 
 pub billed-held : (a : State) → Figures a → PriceFits (a .plan) (a .billed)
-billed-held a f = omega (arith, plan-of-state a f, f .billed-ok, f .lifetime-ok)
+billed-held a f = omega (arith, plan-of-state a f, f .billed-ok, f .lifetime-ok, f .charged-ok)
 
 pub basis-held : (a : State) → Figures a → BasisFits (a .basis)
-basis-held a f = omega (arith, f .basis-ok, f .surcharged-ok, f .lifetime-ok)
+basis-held a f = omega (arith, f .basis-ok, f .surcharged-ok, f .lifetime-ok, f .charged-ok)

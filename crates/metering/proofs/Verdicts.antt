@@ -3,24 +3,27 @@ use Prim.Native.Nat.{ℕ, _+_, _≤_, _<_}
 use mathlib.Core.Path.{_≡_, refl}
 use mathlib.Core.Bool.{true, false}
 use native.Mathlib.Omega.{arith}
-use lib.Dec.{leb}
-use borrow.Author.Tests.{leb-true, lt-ltb, le-ltb}
+use lib.Dec.{leb, ltb}
+use borrow.Author.Tests.{leb-true, ltb-false, lt-ltb, le-ltb}
 use Rattle.tariff.specs.declared.Units.{Units}
 use Rattle.tariff.specs.declared.Kind.{Kind}
 use Rattle.tariff.specs.declared.Kind.the-variants.{Data, Outgoing, Incoming, Sms}
 use Rattle.tariff.specs.Tests.{between, verdict-of}
 use Rattle.tariff.specs.Units.{each, _⊕_, only, of-kind, AtMost}
+use Rattle.calendar.proofs.Laws.{or-left, or-right}
 use Rattle.tariff.proofs.Tests.{and-left, and-right}
+use Rattle.presence.specs.declared.Location.{Location}
 use Rattle.presence.specs.Day.{is-placed}
 use Rattle.presence.specs.Log.{lifetime-most}
 use Rattle.metering.specs.declared.State.{State}
 use Rattle.metering.specs.declared.StateUsed.{StateUsed}
 use Rattle.metering.specs.declared.UseAnswer.the-variants.{Charged, Declined}
-use Rattle.metering.specs.Use.{cost, spent, charge-of}
-use Rattle.metering.specs.Sound.{figures-sound}
-use Rattle.metering.specs.Reasons.{use-reasons, use-state}
+use Rattle.metering.specs.Use.{charged-as, charged-units, cost, spent, charge-of}
+use Rattle.metering.specs.Sound.{chargeable, figures-sound}
+use Rattle.metering.specs.Reasons.{overfills, use-reasons, use-state}
 use Rattle.metering.specs.Needs.{Ready}
-use Rattle.metering.proofs.Soundness.{figures-tell}
+use Rattle.metering.proofs.Bounds.{charged-few}
+use Rattle.metering.proofs.Soundness.{Figures, figures-tell}
 
 abbrev declined : ℕ → State → StateUsed
 declined r a = record { answer = Declined r; state = a }
@@ -34,19 +37,35 @@ module _ (a : State) (k : Kind) (n : ℕ) where
   unfolding use-state use-reasons verdict-of
   used-4 p e = rw (p, e) refl
 
-  pub used-5 : is-placed (a .place) ≡ true → between 1 n 1000000000 ≡ true → 1000000000000 < of-kind k (a .lifetime) + n → declined 5 a ≡ use-state a k n
+  pub used-5 : is-placed (a .place) ≡ true → between 1 n 1000000000 ≡ true → overfills a k n ≡ true → declined 5 a ≡ use-state a k n
   unfolding use-state use-reasons verdict-of
-  used-5 p e l = rw (p, e, lt-ltb _ _ l) refl
+  used-5 p e o = rw (p, e, o) refl
 
-  pub used-6 : is-placed (a .place) ≡ true → between 1 n 1000000000 ≡ true → of-kind k (a .lifetime) + n ≤ 1000000000000
-      → a .credit < cost a (only k n) → declined 6 a ≡ use-state a k n
+  pub used-6 : is-placed (a .place) ≡ true → between 1 n 1000000000 ≡ true → overfills a k n ≡ false → a .credit < cost a (charged-units (a .place) k n)
+      → declined 6 a ≡ use-state a k n
   unfolding use-state use-reasons verdict-of
-  used-6 p e l m = rw (p, e, le-ltb _ _ l, lt-ltb _ _ m) refl
+  used-6 p e o m = rw (p, e, o, lt-ltb _ _ m) refl
 
-  pub used-yes : is-placed (a .place) ≡ true → between 1 n 1000000000 ≡ true → of-kind k (a .lifetime) + n ≤ 1000000000000
-      → cost a (only k n) ≤ a .credit → record { answer = Charged (charge-of a k (only k n)); state = spent a (only k n) (only k n) } ≡ use-state a k n
+  pub used-yes : is-placed (a .place) ≡ true → between 1 n 1000000000 ≡ true → overfills a k n ≡ false → cost a (charged-units (a .place) k n) ≤ a .credit
+      → record { answer = Charged (charge-of a k (charged-units (a .place) k n)); state = spent a (only k n) (charged-units (a .place) k n) } ≡ use-state a k n
   unfolding use-state use-reasons verdict-of
-  used-yes p e l m = rw (p, e, le-ltb _ _ l, le-ltb _ _ m) refl
+  used-yes p e o m = rw (p, e, o, le-ltb _ _ m) refl
+
+  -- the limits that a use keeps unless it is refused by 5
+  pub record Room : Type 0 where
+    pub units : of-kind k (a .lifetime) + n ≤ 1000000000000
+    pub seconds : a .chargedseconds + charged-units (a .place) k n .outgoing ≤ 1000000000000
+
+  pub has-room : overfills a k n ≡ false → Room
+  unfolding overfills
+  has-room o =
+      let u = ltb 1000000000000 (of-kind k (a .lifetime) + n) in
+      let s = ltb 1000000000000 (a .chargedseconds + charged-units (a .place) k n .outgoing) in
+      record { units = ltb-false _ _ (or-left u s o); seconds = ltb-false _ _ (or-right u s o) }
+
+  pub room-enough : Room → overfills a k n ≡ false
+  unfolding overfills
+  room-enough r = rw (le-ltb _ _ (r .units), le-ltb _ _ (r .seconds)) refl
 
 few-only : (k : Kind) (n : ℕ) → n ≤ 1000000000 → AtMost (only k n) (each 1000000000 1000000000 1000000000 1000000000)
 few-only Data n h = omega arith
@@ -54,14 +73,32 @@ few-only Outgoing n h = omega arith
 few-only Incoming n h = omega arith
 few-only Sms n h = omega arith
 
-room-only : (u : Units) (k : Kind) (n : ℕ) → AtMost u lifetime-most → of-kind k u + n ≤ 1000000000000 → AtMost (u ⊕ only k n) lifetime-most
+pub room-only : (u : Units) (k : Kind) (n : ℕ) → AtMost u lifetime-most → of-kind k u + n ≤ 1000000000000 → AtMost (u ⊕ only k n) lifetime-most
 room-only u Data n h l = omega arith
 room-only u Outgoing n h l = omega arith
 room-only u Incoming n h l = omega arith
 room-only u Sms n h l = omega arith
 
-pub ready : (a : State) (k : Kind) (n : ℕ) → figures-sound a ≡ true → n ≤ 1000000000 → of-kind k (a .lifetime) + n ≤ 1000000000000 → Ready a (only k n)
-ready a k n f h l = record { figures = f; few = few-only k n h; room = room-only (a .lifetime) k n (figures-tell a f .lifetime-ok) l }
+room-charged : (a : State) (k : Kind) (n : ℕ) → Figures a → Room a k n → AtMost (chargeable a ⊕ charged-units (a .place) k n) lifetime-most
+unfolding charged-units charged-as
+room-charged a Data n f r = omega (arith, f .lifetime-ok, f .charged-ok, r .units)
+room-charged a Outgoing n f r = omega (arith, f .lifetime-ok, r .seconds)
+room-charged a Incoming n f r = omega (arith, f .lifetime-ok, f .charged-ok, r .units)
+room-charged a Sms n f r = omega (arith, f .lifetime-ok, f .charged-ok, r .units)
+
+few-charged : (w : Location) (k : Kind) (n : ℕ) → n ≤ 1000000000 → AtMost (charged-units w k n) (each 1000000000 1000000000 1000000000 1000000000)
+unfolding charged-units
+few-charged w k n h = few-only k (charged-as w k n) (charged-few w k n h)
+
+pub ready : (a : State) (k : Kind) (n : ℕ) → figures-sound a ≡ true → n ≤ 1000000000 → overfills a k n ≡ false → Ready a (charged-units (a .place) k n)
+ready a k n f h o = record { figures = f; few = few-charged (a .place) k n h; room = room-charged a k n (figures-tell a f) (has-room a k n o) }
+
+pub lifetime-room : (a : State) (k : Kind) (n : ℕ) → figures-sound a ≡ true → overfills a k n ≡ false → AtMost (a .lifetime ⊕ only k n) lifetime-most
+lifetime-room a k n f o = room-only (a .lifetime) k n (figures-tell a f .lifetime-ok) (has-room a k n o .units)
+
+-- charged seconds after a record stay within the machine's numbers
+pub seconds-most : (a : State) (k : Kind) (n : ℕ) → figures-sound a ≡ true → n ≤ 1000000000 → a .chargedseconds + charged-units (a .place) k n .outgoing ≤ 1001000000000
+seconds-most a k n f h = omega (arith, figures-tell a f .charged-ok, few-charged (a .place) k n h)
 
 pub some : (n m : ℕ) → between 1 n m ≡ true → 1 ≤ n
 some n m e = leb-true _ _ (and-left (leb 1 n) (leb n m) e)

@@ -13,10 +13,14 @@ use Rattle.tariff.specs.Plan.{is-prepaid, credit-allowance, plan-allowance}
 use Rattle.presence.specs.declared.Location.{Location}
 use Rattle.presence.specs.declared.Location.the-variants.{Nowhere, At}
 use Rattle.presence.specs.declared.ServiceState.the-variants.{Clear}
+use Rattle.presence.specs.declared.Services.{Services}
 use Rattle.presence.specs.declared.Day.{Day}
 use Rattle.presence.specs.Day.{in-zone, empty-day, mark-day}
 use Rattle.presence.specs.Service.{services-after}
 use Rattle.metering.specs.declared.State.{State}
+
+abbrev pub all-clear : Services
+all-clear = record { internet = Clear; calls = Clear; messages = Clear }
 
 -- "Numbers begin at 0, states at Clear", place none; L by the plan's form and the start day's cap
 unfoldable pub opened-state : Plan → State
@@ -29,6 +33,7 @@ opened-state p = record {
   homecharges = 0;
   surcharges = 0;
   lifetime = zero-units;
+  chargedseconds = 0;
   billed = zero-units;
   surcharged = zero-units;
   basis = zero-units;
@@ -37,7 +42,7 @@ opened-state p = record {
   allowance = plan-allowance p (caps-on built-in (p .start) .kb);
   today = empty-day;
   logged = 0;
-  services = record { internet = Clear; calls = Clear; messages = Clear };
+  services = all-clear;
 }
 
 -- "Entering the zone from another place or none, a prepaid account sets L"
@@ -55,6 +60,7 @@ registered a p = record {
   homecharges = a .homecharges;
   surcharges = a .surcharges;
   lifetime = a .lifetime;
+  chargedseconds = a .chargedseconds;
   billed = a .billed;
   surcharged = a .surcharged;
   basis = a .basis;
@@ -81,6 +87,7 @@ topped a n = record {
   homecharges = a .homecharges;
   surcharges = a .surcharges;
   lifetime = a .lifetime;
+  chargedseconds = a .chargedseconds;
   billed = a .billed;
   surcharged = a .surcharged;
   basis = a .basis;
@@ -107,6 +114,7 @@ next-state-of a ds = record {
   homecharges = a .homecharges;
   surcharges = a .surcharges;
   lifetime = a .lifetime;
+  chargedseconds = a .chargedseconds;
   billed = a .billed;
   surcharged = a .surcharged;
   basis = a .basis;

@@ -16,7 +16,7 @@ use Rattle.presence.specs.Log.{units-over, lifetime-most}
 use Rattle.metering.specs.declared.State.{State}
 use Rattle.metering.specs.declared.Bill.{Bill}
 use Rattle.metering.specs.Use.{billed-after, newly-surcharged, basis-after, home-after, extra-after, cost}
-use Rattle.metering.specs.Sound.{figures-sound, charges-sound}
+use Rattle.metering.specs.Sound.{chargeable, figures-sound, charges-sound}
 
 -- a place where the home price bears
 abbrev pub bears : Location → Bool
@@ -35,11 +35,11 @@ bill-of a c = record {
   extra = extra-after a c;
 }
 
--- the account's figures are sound, and the units, which the lifetime units can take, are no more than a use may have
-pub record Ready (a : State) (u : Units) : Type 0 where
+-- the account's figures are sound, and the units charged, which the lifetime units with charged seconds can take, are no more than a use may have
+pub record Ready (a : State) (c : Units) : Type 0 where
   pub figures : figures-sound a ≡ true
-  pub few : AtMost u (each 1000000000 1000000000 1000000000 1000000000)
-  pub room : AtMost (a .lifetime ⊕ u) lifetime-most
+  pub few : AtMost c (each 1000000000 1000000000 1000000000 1000000000)
+  pub room : AtMost (chargeable a ⊕ c) lifetime-most
 
 -- what soundness tells of all but the log
 pub record Steady (a : State) : Type 0 where
@@ -47,12 +47,12 @@ pub record Steady (a : State) : Type 0 where
   pub charges : charges-sound a ≡ true
   pub today : AtMost (day-units (a .today)) (a .lifetime)
 
--- a use that is not refused, with its bill
-pub record Spends (a : State) (u : Units) (b : Bill) : Type 0 where
+-- a use charged as c that is not refused, with its bill
+pub record Spends (a : State) (c : Units) (b : Bill) : Type 0 where
   pub steady : Steady a
-  pub ready : Ready a u
-  pub bill-is : b ≡ bill-of a u
-  pub affordable : cost a u ≤ a .credit
+  pub ready : Ready a c
+  pub bill-is : b ≡ bill-of a c
+  pub affordable : cost a c ≤ a .credit
 
 -- a day change that is not refused, where the log has today in it
 pub record Turns (a : State) (ds : List Day) : Type 0 where

@@ -1,6 +1,6 @@
--- 01, "What each operation declines": the reasons of each call but 0, in 01's order, and a use by them. Assumes nothing.
+-- 01, "What each operation declines": the reasons of each call but 0, in 01's order, and a use by them; with 02, 3/13. Assumes nothing.
 use Prim.Native.Nat.{ℕ, _+_}
-use mathlib.Core.Bool.{Bool, true, false, not, cond}
+use mathlib.Core.Bool.{Bool, true, false, not, cond, _||_}
 use mathlib.Core.List.{List, [], _∷_}
 use lib.Dec.{leb, ltb}
 use Rattle.tariff.specs.declared.Kind.{Kind}
@@ -14,15 +14,19 @@ use Rattle.metering.specs.declared.Charge.{Charge}
 use Rattle.metering.specs.declared.UseAnswer.{UseAnswer}
 use Rattle.metering.specs.declared.UseAnswer.the-variants.{Charged, Declined}
 use Rattle.metering.specs.declared.StateUsed.{StateUsed}
-use Rattle.metering.specs.Use.{cost, spent, charge-of}
+use Rattle.metering.specs.Use.{charged-units, cost, spent, charge-of}
+
+-- reason 5: the use would take the lifetime units of its kind past 1,000,000,000,000, or (02, 3/13) the lifetime charged seconds
+unfoldable pub overfills : State → Kind → ℕ → Bool
+overfills a k n = ltb 1000000000000 (of-kind k (a .lifetime) + n) || ltb 1000000000000 (a .chargedseconds + charged-units (a .place) k n .outgoing)
 
 -- "Use: 3 no place; 4 n outside 1 to 1,000,000,000; 5 lifetime units of the kind would pass 1,000,000,000,000; 6 cost above credit"
 unfoldable pub use-reasons : State → Kind → ℕ → List Reason
 use-reasons a k n =
     because 3 (not (is-placed (a .place)))
     ∷ because 4 (not (between 1 n 1000000000))
-    ∷ because 5 (ltb 1000000000000 (of-kind k (a .lifetime) + n))
-    ∷ because 6 (ltb (a .credit) (cost a (only k n)))
+    ∷ because 5 (overfills a k n)
+    ∷ because 6 (ltb (a .credit) (cost a (charged-units (a .place) k n)))
     ∷ []
 
 -- "Top-up: 7 amount outside 1 to 10,000,000; 8 paid in would pass 1,000,000,000"
@@ -41,6 +45,6 @@ use-answer (Refused n) c = Declined n
 -- a use on a sound account: its answer, and all but the log
 unfoldable pub use-state : State → Kind → ℕ → StateUsed
 use-state a k n = record {
-  answer = use-answer (verdict-of (use-reasons a k n)) (charge-of a k (only k n));
-  state = cond (is-accepted (verdict-of (use-reasons a k n))) (spent a (only k n) (only k n)) a;
+  answer = use-answer (verdict-of (use-reasons a k n)) (charge-of a k (charged-units (a .place) k n));
+  state = cond (is-accepted (verdict-of (use-reasons a k n))) (spent a (only k n) (charged-units (a .place) k n)) a;
 }

@@ -3,6 +3,7 @@ use Prim.Native.Nat.{ℕ, _+_, _-_, min}
 use mathlib.Core.Bool.{Bool, true}
 use mathlib.Core.List.{List, [], _∷_}
 use lib.Dec.{leb, eqb}
+use Rattle.tariff.specs.declared.Units.{Units}
 use Rattle.tariff.specs.declared.Allowance.{Allowance}
 use Rattle.tariff.specs.declared.Allowance.the-variants.{NoLimit, Kilobytes}
 use Rattle.tariff.specs.Tests.{all, is-accepted}
@@ -13,6 +14,7 @@ use Rattle.presence.specs.declared.ServiceState.{ServiceState}
 use Rattle.presence.specs.declared.ServiceState.the-variants.{Clear, Warned, Surcharged}
 use Rattle.presence.specs.Log.{lifetime-most}
 use Rattle.metering.specs.declared.State.{State}
+use Rattle.metering.specs.Use.{with-seconds}
 
 -- "L is at most 2,000,000,000,000,000"
 abbrev pub allowance-fits : Allowance → Bool
@@ -25,6 +27,10 @@ warning-fits Clear = true
 warning-fits (Warned k) = leb k 14
 warning-fits Surcharged = true
 
+-- 02, 3/13: what priced and surcharged units are held against: the lifetime units, but for outgoing seconds those charged
+abbrev pub chargeable : State → Units
+chargeable a = with-seconds (a .lifetime) (a .chargedseconds)
+
 -- single figures, in 01's order
 unfoldable pub figures-sound : State → Bool
 figures-sound a = all
@@ -34,12 +40,14 @@ figures-sound a = all
     ∷ leb (a .day) 3833
     -- "lifetime units and paid in keep their limits (5, 8)"
     ∷ fits (a .lifetime) lifetime-most
+    -- 02, 3/13: the charged seconds keep the limit of the lifetime units
+    ∷ leb (a .chargedseconds) 1000000000000
     ∷ leb (a .paid) 1000000000
     -- "R, H, priced units, surcharged units ... are at most the lifetime units of their kind"
     ∷ leb (a .roamed) (a .lifetime .kb)
     ∷ leb (a .monthly) (a .lifetime .kb)
-    ∷ fits (a .billed) (a .lifetime)
-    ∷ fits (a .surcharged) (a .lifetime)
+    ∷ fits (a .billed) (chargeable a)
+    ∷ fits (a .surcharged) (chargeable a)
     -- "a cap sum is at most 20,000 × its surcharged units"
     ∷ fits (a .basis) (each 20000 20000 20000 20000 ⊗ a .surcharged)
     ∷ allowance-fits (a .allowance)

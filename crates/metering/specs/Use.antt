@@ -1,15 +1,16 @@
 -- 01, "Account and its calls", Use: which units bear home price and surcharge, what that makes of the account's sums, and the answer.
 -- All but the log: a use leaves the log as it is. Assumes nothing.
-use Prim.Native.Nat.{ℕ, _+_, _-_}
-use mathlib.Core.Bool.{Bool, false, _&&_}
+use Prim.Native.Nat.{ℕ, _+_, _-_, max}
+use mathlib.Core.Bool.{Bool, false, cond, _&&_}
 use lib.Dec.{leb, ltb}
 use Rattle.tariff.specs.declared.Units.{Units}
 use Rattle.tariff.specs.declared.Kind.{Kind}
+use Rattle.tariff.specs.declared.Kind.the-variants.{Data, Outgoing, Incoming, Sms}
 use Rattle.tariff.specs.declared.Place.the-variants.{Home, Zone, Elsewhere}
 use Rattle.tariff.specs.declared.Plan.{Plan}
 use Rattle.tariff.specs.declared.Allowance.{Allowance}
 use Rattle.tariff.specs.declared.Allowance.the-variants.{NoLimit, Kilobytes}
-use Rattle.tariff.specs.Units.{zero-units, _⊕_, _⊗_, of-kind}
+use Rattle.tariff.specs.Units.{each, zero-units, _⊕_, _⊗_, only, of-kind}
 use Rattle.tariff.specs.Caps.{built-in, caps-on}
 use Rattle.tariff.specs.Charges.{billed-kb, counted-kb, after-allowance, home-charges-of, surcharges-of}
 use Rattle.presence.specs.declared.Location.{Location}
@@ -17,9 +18,25 @@ use Rattle.presence.specs.declared.Location.the-variants.{Nowhere, At}
 use Rattle.presence.specs.declared.ServiceState.{ServiceState}
 use Rattle.presence.specs.declared.ServiceState.the-variants.{Clear, Warned, Surcharged}
 use Rattle.presence.specs.declared.Services.{Services}
-use Rattle.presence.specs.Day.{mark-day, add-day}
+use Rattle.presence.specs.Day.{in-zone, mark-day, add-day}
 use Rattle.metering.specs.declared.State.{State}
 use Rattle.metering.specs.declared.Charge.{Charge}
+
+-- 02, 3/13: the number of units that a record of n units is charged for, for home price and surcharge alike. An outgoing call in the zone pays for 30
+-- seconds at least; whatever else was used, and wherever, pays for what it is.
+unfoldable pub charged-as : Location → Kind → ℕ → ℕ
+charged-as w Data n = n
+charged-as w Outgoing n = cond (in-zone w) (max n 30) n
+charged-as w Incoming n = n
+charged-as w Sms n = n
+
+-- the units that a record is charged for, with none of the other kinds
+unfoldable pub charged-units : Location → Kind → ℕ → Units
+charged-units w k n = only k (charged-as w k n)
+
+-- units with s outgoing seconds for their own, as the charged ones stand for those spoken
+abbrev pub with-seconds : Units → ℕ → Units
+with-seconds u s = each (u .kb) s (u .incoming) (u .sms)
 
 -- "Home price bears on home and zone use only": the units that it can bear on
 unfoldable pub billable : Location → Units → Units
@@ -78,7 +95,8 @@ extra-after a c = surcharges-of (basis-after a c)
 unfoldable pub cost : State → Units → ℕ
 cost a c = (home-after a c - a .homecharges) + (extra-after a c - a .surcharges)
 
--- what an accepted use makes of the account: u units used, charged as c
+-- what an accepted use makes of the account: u units used, charged as c. 02, 3/13: beside the lifetime units, in which seconds are those
+-- spoken, the account counts outgoing seconds as charged, at every place.
 unfoldable pub spent : State → Units → Units → State
 spent a u c = record {
   plan = a .plan;
@@ -89,6 +107,7 @@ spent a u c = record {
   homecharges = home-after a c;
   surcharges = extra-after a c;
   lifetime = a .lifetime ⊕ u;
+  chargedseconds = a .chargedseconds + c .outgoing;
   billed = billed-after a c;
   surcharged = a .surcharged ⊕ newly-surcharged a c;
   basis = basis-after a c;
@@ -105,11 +124,12 @@ abbrev pub notice-of : Allowance → ℕ → ℕ → Bool
 notice-of NoLimit before now = false
 notice-of (Kilobytes l) before now = ltb before l && leb l now
 
--- "Answer: home and surcharge points taken, surcharged units, and a notice"
+-- "Answer: home and surcharge points taken, surcharged units, and a notice"; with 02, 3/13, the units charged, too
 unfoldable pub charge-of : State → Kind → Units → Charge
 charge-of a k c = record {
   home = home-after a c - a .homecharges;
   extra = extra-after a c - a .surcharges;
   surcharged = of-kind k (newly-surcharged a c);
+  charged = of-kind k c;
   notice = notice-of (a .allowance) (a .roamed) (a .roamed + roaming (a .place) c .kb);
 }

@@ -1,7 +1,12 @@
-// A claim about uses, stated in specs/Claims.antt.
-ghost use Rattle.metering.specs.Claims.{UsesAddUp};
+// Claims about uses, stated in specs/Claims.antt.
+ghost use Rattle.metering.specs.Claims.{UsesAddUp, FirstHalfMinute};
 
 // Two uses, one after the other, come to one use of their sum.
 pub fn uses_add_up()
     ensures { λ _. ⌜ UsesAddUp ⌝ }
+{}
+
+// Which records are charged for more than was used, and for how much.
+pub fn first_half_minute()
+    ensures { λ _. ⌜ FirstHalfMinute ⌝ }
 {}

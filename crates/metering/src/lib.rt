@@ -14,20 +14,21 @@ use tariff::Units;
 use tariff::Verdict;
 ghost use mathlib.Core.Path.{_≡_};
 ghost use mathlib.Core.Bool.{Bool, true, false, cond, _&&_};
-ghost use Prim.Native.Nat.{ℕ, _+_, _-_, _*_, _≤_, _<_, min};
+ghost use Prim.Native.Nat.{ℕ, _+_, _-_, _*_, _≤_, _<_, min, max};
 ghost use lib.Dec.{leb, ltb, eqb};
 ghost use Rattle.tariff.specs.Tests.{between, is-accepted};
-ghost use Rattle.tariff.specs.Units.{each, zero-units, _⊗_, only, fits, AtMost};
+ghost use Rattle.tariff.specs.Units.{each, zero-units, _⊕_, _⊗_, only, fits, AtMost};
 ghost use Rattle.tariff.specs.Caps.{built-in, caps-on};
 ghost use Rattle.tariff.specs.Plan.{plan-verdict, credit-allowance};
-ghost use Rattle.presence.specs.Log.{days-of};
-ghost use Rattle.metering.specs.Use.{billable, roaming, billed-of, surcharged-of, surcharged-units, spent, notice-of, charge-of};
-ghost use Rattle.metering.specs.Moves.{opened-state, enters, renews, turns-month, registered, topped, next-state-of};
-ghost use Rattle.metering.specs.Sound.{allowance-fits, warning-fits, figures-sound, charges-sound};
-ghost use Rattle.metering.specs.Reasons.{use-state};
+ghost use Rattle.presence.specs.Log.{days-of, lifetime-most};
+ghost use Rattle.metering.specs.Use.{charged-as, charged-units, billable, roaming, billed-of, surcharged-of, surcharged-units, spent, notice-of, charge-of};
+ghost use Rattle.metering.specs.Moves.{all-clear, opened-state, enters, renews, turns-month, registered, topped, next-state-of};
+ghost use Rattle.metering.specs.Sound.{chargeable, allowance-fits, warning-fits, figures-sound, charges-sound};
+ghost use Rattle.metering.specs.Reasons.{overfills, use-state};
 ghost use Rattle.metering.specs.Needs.{bears, bill-of, Ready, Steady, Spends, Turns, Payable};
 
-// All of the account but its log. Amounts are points; `monthly` is H, `roamed` R and `allowance` L of document 01; `basis` are the sums of cap x surcharged units.
+// All of the account but its log. Amounts are points; `monthly` is H, `roamed` R and `allowance` L of document 01; `basis` are the sums of cap x surcharged units;
+// `chargedseconds` are the lifetime outgoing seconds as charged, `lifetime.outgoing` as spoken.
 pub struct State {
     pub plan: Plan,
     pub day: u64,
@@ -37,6 +38,7 @@ pub struct State {
     pub homecharges: u64,
     pub surcharges: u64,
     pub lifetime: Units,
+    pub chargedseconds: u64,
     pub billed: Units,
     pub surcharged: Units,
     pub basis: Units,
@@ -48,11 +50,12 @@ pub struct State {
     pub services: Services,
 }
 
-// What an accepted use answers: home and surcharge points taken, surcharged units, notice.
+// What an accepted use answers: home and surcharge points taken, surcharged units, units charged, notice.
 pub struct Charge {
     pub home: u64,
     pub extra: u64,
     pub surcharged: u64,
+    pub charged: u64,
     pub notice: bool,
 }
 
@@ -155,9 +158,8 @@ fn days_logged(start: u64, day: u64) -> u64
     if n < 123 { n } else { 123 }
 }
 
-// Are the single figures sound? Any values will do.
-pub fn figures_fit(a: State) -> bool
-    ensures { λ r. ⌜ r ≡ figures-sound a ⌝ }
+fn lifetime_fits(u: Units) -> bool
+    ensures { λ r. ⌜ r ≡ fits u lifetime-most ⌝ }
 {
     let most = Units {
         kb: 1000000000000,
@@ -165,6 +167,26 @@ pub fn figures_fit(a: State) -> bool
         incoming: 1000000000000,
         sms: 1000000000000,
     };
+    tariff::units_fit(u, most)
+}
+
+// What priced and surcharged units may come to.
+fn chargeable_of(a: State) -> Units
+    ensures { λ r. ⌜ r ≡ chargeable a ⌝ }
+{
+    let lifetime = a.lifetime;
+    Units {
+        kb: lifetime.kb,
+        outgoing: a.chargedseconds,
+        incoming: lifetime.incoming,
+        sms: lifetime.sms,
+    }
+}
+
+// Are the single figures sound? Any values will do.
+pub fn figures_fit(a: State) -> bool
+    ensures { λ r. ⌜ r ≡ figures-sound a ⌝ }
+{
     let plan = a.plan;
     let lifetime = a.lifetime;
     let allowance = a.allowance;
@@ -172,10 +194,11 @@ pub fn figures_fit(a: State) -> bool
     let internet = services.internet;
     let calls = services.calls;
     let messages = services.messages;
+    let chargeable = chargeable_of(a);
     let plan_ok = plan_opens(plan);
-    let lifetime_ok = tariff::units_fit(lifetime, most);
-    let billed_ok = tariff::units_fit(a.billed, lifetime);
-    let surcharged_ok = tariff::units_fit(a.surcharged, lifetime);
+    let lifetime_ok = lifetime_fits(lifetime);
+    let billed_ok = tariff::units_fit(a.billed, chargeable);
+    let surcharged_ok = tariff::units_fit(a.surcharged, chargeable);
     let basis_ok = basis_fits(a.basis, a.surcharged);
     let allowance_ok = allowance_fits(allowance);
     let logged = days_logged(plan.start, a.day);
@@ -186,6 +209,7 @@ pub fn figures_fit(a: State) -> bool
         & (plan.start <= a.day)
         & (a.day <= 3833)
         & lifetime_ok
+        & (a.chargedseconds <= 1000000000000)
         & (a.paid <= 1000000000)
         & (a.roamed <= lifetime.kb)
         & (a.monthly <= lifetime.kb)
@@ -219,6 +243,33 @@ pub fn charges_fit(a: State) -> bool
 }
 
 // What a use is charged.
+
+fn greater(m: u64, n: u64) -> u64
+    ensures { λ r. ⌜ r ≡ max m n ⌝ }
+{
+    if m < n { n } else { m }
+}
+
+// As how many units a record of n units is charged: an outgoing one in the zone as 30 at least.
+fn charged_as(w: Location, k: Kind, n: u64) -> u64
+    ensures { λ r. ⌜ r ≡ charged-as w k n ⌝ }
+{
+    let zone = presence::zone_at(w);
+    match k {
+        Kind::Data => n,
+        Kind::Outgoing => pick(zone, greater(n, 30), n),
+        Kind::Incoming => n,
+        Kind::Sms => n,
+    }
+}
+
+// The units that a record of n units is charged for.
+pub fn charged_units(w: Location, k: Kind, n: u64) -> Units
+    ensures { λ r. ⌜ r ≡ charged-units w k n ⌝ }
+{
+    let m = charged_as(w, k, n);
+    tariff::only_of(k, m)
+}
 
 fn bears_at(p: Place) -> bool
     ensures { λ r. ⌜ r ≡ bears (Location.At p) ⌝ }
@@ -330,16 +381,16 @@ pub fn work_out(a: State, c: Units) -> Bill
     }
 }
 
-// All but the log after a use of the units, whose bill this is.
-fn spend(mut a: State, u: Units, b: Bill) -> State
-    requires { ⌜ Spends a u b ⌝ }
-    ensures { λ r. ⌜ r ≡ spent a u u ⌝ }
+// All but the log after a use of u units, charged as c, whose bill this is.
+fn spend(mut a: State, u: Units, c: Units, b: Bill) -> State
+    requires { ⌜ Spends a c b × AtMost (a .lifetime ⊕ u) lifetime-most ⌝ }
+    ensures { λ r. ⌜ r ≡ spent a u c ⌝ }
 {
     let plan = a.plan;
     let place = a.place;
     let form = plan.form;
-    let borne = billable_of(place, u);
-    let zone = roaming_of(place, u);
+    let borne = billable_of(place, c);
+    let zone = roaming_of(place, c);
     let counted = tariff::counted_of(form, borne.kb);
     let lifetime = tariff::plus(a.lifetime, u);
     let surcharged = tariff::plus(a.surcharged, b.fresh);
@@ -351,6 +402,7 @@ fn spend(mut a: State, u: Units, b: Bill) -> State
     a.surcharges = b.extra;
     a.monthly = a.monthly + counted;
     a.roamed = a.roamed + zone.kb;
+    a.chargedseconds = a.chargedseconds + c.outgoing;
     a.lifetime = lifetime;
     a.surcharged = surcharged;
     a.billed = billed;
@@ -368,20 +420,22 @@ fn notice_at(l: Allowance, before: u64, now: u64) -> bool
     }
 }
 
-// What a use of the units answers, whose bill this is.
-fn charge_on(a: State, k: Kind, u: Units, b: Bill) -> Charge
-    requires { ⌜ Spends a u b ⌝ }
-    ensures { λ r. ⌜ r ≡ charge-of a k u ⌝ }
+// What a use charged as c answers, whose bill this is.
+fn charge_on(a: State, k: Kind, c: Units, b: Bill) -> Charge
+    requires { ⌜ Spends a c b ⌝ }
+    ensures { λ r. ⌜ r ≡ charge-of a k c ⌝ }
 {
     let place = a.place;
     let allowance = a.allowance;
-    let zone = roaming_of(place, u);
+    let zone = roaming_of(place, c);
     let notice = notice_at(allowance, a.roamed, a.roamed + zone.kb);
     let surcharged = tariff::amount(k, b.fresh);
+    let charged = tariff::amount(k, c);
     Charge {
         home: b.home - a.homecharges,
         extra: b.extra - a.surcharges,
         surcharged: surcharged,
+        charged: charged,
         notice: notice,
     }
 }
@@ -391,6 +445,18 @@ pub fn within(l: u64, n: u64, h: u64) -> bool
     ensures { λ r. ⌜ r ≡ between l n h ⌝ }
 {
     (l <= n) & (n <= h)
+}
+
+// Refusal 5: would the use pass a limit, that of the lifetime units or that of the charged seconds? Asked before the charged units are made in
+// `use_of`: so the compiled code of a use copies an account once and not twice.
+pub fn overfills(a: State, k: Kind, n: u64) -> bool
+    requires { ⌜ (figures-sound a ≡ true) × (n ≤ 1000000000) ⌝ }
+    ensures { λ r. ⌜ r ≡ overfills a k n ⌝ }
+{
+    let place = a.place;
+    let c = charged_units(place, k, n);
+    (tariff::amount(k, a.lifetime) + n > 1000000000000)
+        | (a.chargedseconds + c.outgoing > 1000000000000)
 }
 
 // A use on a sound account: refusals 3, 4, 5, 6, or its charge.
@@ -411,22 +477,23 @@ pub fn use_of(a: State, k: Kind, n: u64) -> StateUsed
             state: a,
         };
     }
-    if tariff::amount(k, a.lifetime) + n > 1000000000000 {
+    if overfills(a, k, n) {
         return StateUsed {
             answer: UseAnswer::Declined(5),
             state: a,
         };
     }
-    let u = tariff::only_of(k, n);
-    let b = work_out(a, u);
+    let c = charged_units(place, k, n);
+    let b = work_out(a, c);
     if (b.home - a.homecharges) + (b.extra - a.surcharges) > a.credit {
         return StateUsed {
             answer: UseAnswer::Declined(6),
             state: a,
         };
     }
-    let charge = charge_on(a, k, u, b);
-    let next = spend(a, u, b);
+    let charge = charge_on(a, k, c, b);
+    let u = tariff::only_of(k, n);
+    let next = spend(a, u, c, b);
     StateUsed {
         answer: UseAnswer::Charged(charge),
         state: next,
@@ -534,6 +601,19 @@ pub fn next_from(a: State, log: &[u64; 1599]) -> State
     }
 }
 
+fn all_clear() -> Services
+    ensures { λ r. ⌜ r ≡ all-clear ⌝ }
+{
+    let internet = ServiceState::Clear;
+    let calls = ServiceState::Clear;
+    let messages = ServiceState::Clear;
+    Services {
+        internet: internet,
+        calls: calls,
+        messages: messages,
+    }
+}
+
 // All but the log of a newly opened account.
 pub fn opened_with(p: Plan) -> State
     requires { ⌜ Payable p ⌝ }
@@ -547,14 +627,7 @@ pub fn opened_with(p: Plan) -> State
     };
     let caps = tariff::caps_of(p.start);
     let allowance = tariff::allowance_of(p, caps.kb);
-    let internet = ServiceState::Clear;
-    let calls = ServiceState::Clear;
-    let messages = ServiceState::Clear;
-    let services = Services {
-        internet: internet,
-        calls: calls,
-        messages: messages,
-    };
+    let services = all_clear();
     let today = presence::day_empty();
     let place = Location::Nowhere;
     State {
@@ -566,6 +639,7 @@ pub fn opened_with(p: Plan) -> State
         homecharges: 0,
         surcharges: 0,
         lifetime: none,
+        chargedseconds: 0,
         billed: none,
         surcharged: none,
         basis: none,

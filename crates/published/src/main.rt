@@ -2,6 +2,7 @@
 // marked figure of 01, or with a day, where it tells the rows read (02, 2/13); comments name source and place. The file `stdout` was written by hand from the
 // published figures. Lek are read as points.
 mod bundles; // bundles.rt: open bundles, their limits and charges
+mod calls; // calls.rt: the first half minute of a call, through a whole account
 mod lines; // lines.rt: what is printed
 mod prepaid; // prepaid.rt: limits and charges of a credit
 mod windows; // windows.rt: zone days and service states, through whole accounts
@@ -58,4 +59,5 @@ fn main() {
     windows::of_15_days();
     windows::with_off_days();
     windows::from_day_181();
+    calls::first_half_minute();
 }

@@ -13,7 +13,7 @@ fn fresh() -> Account {
 }
 
 // The same calls n times; fewer if one is refused.
-fn again(a: Account, codes: &[u32], numbers: &[u32], n: u64) -> Account {
+pub fn again(a: Account, codes: &[u32], numbers: &[u32], n: u64) -> Account {
     let mut held = a;
     let mut i: u64 = 0;
     while i < n {

@@ -14,9 +14,8 @@ use Rattle.tariff.specs.declared.Kind.{Kind}
 use Rattle.tariff.specs.declared.Verdict.{Verdict}
 use Rattle.tariff.specs.declared.Verdict.the-variants.{Accepted, Refused}
 use Rattle.tariff.specs.Tests.{is-accepted}
-use Rattle.tariff.specs.Units.{only}
 use Rattle.metering.specs.declared.Charge.{Charge}
-use Rattle.metering.specs.Use.{charge-of}
+use Rattle.metering.specs.Use.{charged-units, charge-of}
 use Rattle.metering.specs.Reasons.{use-answer}
 use Rattle.account.specs.declared.Account.{Account}
 use Rattle.account.specs.declared.Call.{Call}
@@ -51,7 +50,7 @@ module _ (a : Account) where
 
   pub use-applied : (k : Kind) (n : ℕ) → applied-use (used-state (use-result a k n)) ≡ applied-state (applied a (Use k n))
   unfolding use-result applied accepted-answer
-  use-applied k n = λ i. record { answer = from-use-is (verdict a (Use k n)) (charge-of (a .state) k (only k n)) i; state = step a (Use k n) .state }
+  use-applied k n = λ i. record { answer = from-use-is (verdict a (Use k n)) (charge-of (a .state) k (charged-units (a .state .place) k n)) i; state = step a (Use k n) .state }
 
   pub afford-applied : (k : Kind) → applied-afford (a .state) (afford-result a k .answer) ≡ applied-state (applied a (Afford k))
   unfolding afford-result applied accepted-answer

@@ -7,8 +7,7 @@ use Rattle.tariff.specs.declared.Kind.the-variants.{Data, Outgoing, Incoming, S
 use Rattle.tariff.specs.declared.Place.the-variants.{Home, Zone, Elsewhere}
 use Rattle.tariff.specs.declared.Verdict.{Verdict}
 use Rattle.tariff.specs.declared.Verdict.the-variants.{Accepted, Refused}
-use Rattle.tariff.specs.Units.{only}
-use Rattle.metering.specs.Use.{charge-of}
+use Rattle.metering.specs.Use.{charged-units, charge-of}
 use Rattle.account.specs.declared.Account.{Account}
 use Rattle.account.specs.declared.Call.{Call}
 use Rattle.account.specs.declared.Call.the-variants.{Register, Use, TopUp, NextDay, Afford}
@@ -34,7 +33,7 @@ use Rattle.ledger.specs.Lists.{run}
 -- what an accepted call answers: a use its charge, Afford its number
 unfoldable pub accepted-answer : Account → Call → Answer
 accepted-answer a (Register p) = Done
-accepted-answer a (Use k n) = Charged (charge-of (a .state) k (only k n))
+accepted-answer a (Use k n) = Charged (charge-of (a .state) k (charged-units (a .state .place) k n))
 accepted-answer a (TopUp n) = Done
 accepted-answer a NextDay = Done
 accepted-answer a (Afford k) = UpTo (afford-of a k)

@@ -45,11 +45,24 @@ pub fn data(n: u64) -> Call {
     Call::Use(Kind::Data, n)
 }
 
-pub fn used(home: u64, extra: u64, surcharged: u64, notice: bool) -> Result<Answer, u32> {
+pub fn outgoing(n: u64) -> Call {
+    Call::Use(Kind::Outgoing, n)
+}
+
+/// The answer of a use: home and surcharge points, surcharged units, units
+/// charged, notice.
+pub fn used(
+    home: u64,
+    extra: u64,
+    surcharged: u64,
+    charged: u64,
+    notice: bool,
+) -> Result<Answer, u32> {
     Ok(Answer::Used {
         home,
         extra,
         surcharged,
+        charged,
         notice,
     })
 }

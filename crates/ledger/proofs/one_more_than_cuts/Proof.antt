@@ -1,5 +1,5 @@
 -- `ledger::one_more_than_cuts` meets its contract. Assumes nothing.
-use Rattle.ledger.proofs.Lengths.{one-more-than-cuts}
+use Rattle.ledger.proofs.Claims.{one-more-than-cuts}
 use Rattle.ledger.proofs.one_more_than_cuts.Statement.{statement}
 use Rattle.ledger.proofs.one_more_than_cuts.Tie as tie
 

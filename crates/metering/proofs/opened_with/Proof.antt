@@ -12,13 +12,10 @@ caps-of-requires c κs = search needs
 allowance-of-requires : tie.Need-allowance-of-requires
 allowance-of-requires c κs = rw (c .caps-of .ensures) (omega (arith, c .before .pre, caps-bound (c .before .args .p .start)))
 
-day-empty-requires : tie.Need-day-empty-requires
-day-empty-requires c κs = search needs
-
 returns : tie.Need-returns
 unfolding opened-state
-returns c = simp (c .day-empty .ensures, c .before .allowance-of .ensures, c .before .before .caps-of .ensures)
+returns c = simp (c .day-empty .ensures, c .before .all-clear .ensures, c .before .before .allowance-of .ensures, c .before .before .before .caps-of .ensures)
 
 pub opened-with-spec : {M : Type 1} → statement M
 opened-with-spec =
-    tie.close (tie.spec caps-of-requires allowance-of-requires day-empty-requires returns)
+    tie.close (tie.spec caps-of-requires allowance-of-requires (λ c κs. search needs) (λ c κs. search needs) returns)

@@ -1,14 +1,14 @@
 -- `metering::use_of` meets its contract. Assumes nothing.
 use Rattle.tariff.specs.Tests.{between}
-use Rattle.tariff.specs.Units.{only, of-kind}
 use Rattle.presence.specs.Day.{is-placed}
-use Rattle.metering.specs.Use.{cost}
+use Rattle.metering.specs.Use.{charged-units, cost}
+use Rattle.metering.specs.Reasons.{overfills}
 use Rattle.metering.specs.Needs.{bill-of, Ready, Spends}
 use Rattle.metering.proofs.Billing.{Grown, grown, cost-is}
-use Rattle.metering.proofs.Verdicts.{used-3, used-4, used-5, used-6, used-yes, ready, few, kind-most}
+use Rattle.metering.proofs.Verdicts.{used-3, used-4, used-5, used-6, used-yes, ready, lifetime-room, few}
 use borrow.Author.Tests.{not-true, not-false}
 use Prim.Native.Nat.{_+_, _-_, _≤_}
-use mathlib.Core.Bool.{true}
+use mathlib.Core.Bool.{true, false}
 use mathlib.Core.Path.{_≡_, sym, _∙_, ap}
 use native.Mathlib.Omega.{arith}
 use borrow.Author.Needs.{needs}
@@ -21,24 +21,24 @@ somewhere c = sym (c .before .placed .ensures) ∙ not-false (c .before .placed 
 in-range : (c : tie.Else2) → between 1 (c .before .before .before .before .args .n) 1000000000 ≡ true
 in-range c = sym (c .before .within .ensures) ∙ not-false (c .before .within .result) (c .if2 .left)
 
-in-lifetime : (c : tie.Else3) → of-kind (c .before .before .before .before .before .before .args .k) (c .before .before .before .before .before .before .args .a .lifetime) + c .before .before .before .before .before .before .args .n ≤ 1000000000000
-in-lifetime c = omega (arith, c .if3 .left, c .before .amount .ensures)
+in-room : (c : tie.Else3) → overfills (c .before .before .before .before .before .before .args .a) (c .before .before .before .before .before .before .args .k) (c .before .before .before .before .before .before .args .n) ≡ false
+in-room c = sym (c .before .overfills .ensures) ∙ c .if3 .left
 
-is-ready : (c : tie.Else3) → Ready (c .before .before .before .before .before .before .args .a) (only (c .before .before .before .before .before .before .args .k) (c .before .before .before .before .before .before .args .n))
-is-ready c = ready (c .before .before .before .before .before .before .args .a) (c .before .before .before .before .before .before .args .k) (c .before .before .before .before .before .before .args .n) (c .before .before .before .before .before .before .pre .figures) (few _ _ (in-range (c .before .before))) (in-lifetime c)
+is-ready : (c : tie.Else3) → Ready (c .before .before .before .before .before .before .args .a) (charged-units (c .before .before .before .before .before .before .args .a .place) (c .before .before .before .before .before .before .args .k) (c .before .before .before .before .before .before .args .n))
+is-ready c = ready (c .before .before .before .before .before .before .args .a) (c .before .before .before .before .before .before .args .k) (c .before .before .before .before .before .before .args .n) (c .before .before .before .before .before .before .pre .figures) (few _ _ (in-range (c .before .before))) (in-room c)
 
-bill-eq : (c : tie.After-work-out) → c .work-out .result ≡ bill-of (c .before .before .before .before .before .before .before .before .args .a) (only (c .before .before .before .before .before .before .before .before .args .k) (c .before .before .before .before .before .before .before .before .args .n))
-bill-eq c = c .work-out .ensures ∙ ap (bill-of (c .before .before .before .before .before .before .before .before .args .a)) (c .before .only-of .ensures)
+bill-eq : (c : tie.After-work-out) → c .work-out .result ≡ bill-of (c .before .before .before .before .before .before .before .before .args .a) (charged-units (c .before .before .before .before .before .before .before .before .args .a .place) (c .before .before .before .before .before .before .before .before .args .k) (c .before .before .before .before .before .before .before .before .args .n))
+bill-eq c = c .work-out .ensures ∙ ap (bill-of (c .before .before .before .before .before .before .before .before .args .a)) (c .before .charged-units .ensures)
 
 charges : (c : tie.After-work-out) → Grown (c .before .before .before .before .before .before .before .before .args .a) (c .work-out .result)
-charges c = rw (bill-eq c) (grown (c .before .before .before .before .before .before .before .before .args .a) (only (c .before .before .before .before .before .before .before .before .args .k) (c .before .before .before .before .before .before .before .before .args .n)) (c .before .before .before .before .before .before .before .before .pre) (is-ready (c .before .before)))
+charges c = rw (bill-eq c) (grown (c .before .before .before .before .before .before .before .before .args .a) (charged-units (c .before .before .before .before .before .before .before .before .args .a .place) (c .before .before .before .before .before .before .before .before .args .k) (c .before .before .before .before .before .before .before .before .args .n)) (c .before .before .before .before .before .before .before .before .pre) (is-ready (c .before .before)))
 
-cost-eq : (c : tie.After-work-out) → (c .work-out .result .home - c .before .before .before .before .before .before .before .before .args .a .homecharges) + (c .work-out .result .extra - c .before .before .before .before .before .before .before .before .args .a .surcharges) ≡ cost (c .before .before .before .before .before .before .before .before .args .a) (only (c .before .before .before .before .before .before .before .before .args .k) (c .before .before .before .before .before .before .before .before .args .n))
-cost-eq c = rw (bill-eq c) (sym (cost-is (c .before .before .before .before .before .before .before .before .args .a) (only (c .before .before .before .before .before .before .before .before .args .k) (c .before .before .before .before .before .before .before .before .args .n))))
+cost-eq : (c : tie.After-work-out) → (c .work-out .result .home - c .before .before .before .before .before .before .before .before .args .a .homecharges) + (c .work-out .result .extra - c .before .before .before .before .before .before .before .before .args .a .surcharges) ≡ cost (c .before .before .before .before .before .before .before .before .args .a) (charged-units (c .before .before .before .before .before .before .before .before .args .a .place) (c .before .before .before .before .before .before .before .before .args .k) (c .before .before .before .before .before .before .before .before .args .n))
+cost-eq c = rw (bill-eq c) (sym (cost-is (c .before .before .before .before .before .before .before .before .args .a) (charged-units (c .before .before .before .before .before .before .before .before .args .a .place) (c .before .before .before .before .before .before .before .before .args .k) (c .before .before .before .before .before .before .before .before .args .n))))
 
-spends : (c : tie.Else4) → Spends (c .before .before .before .before .before .before .before .before .before .before .before .before .before .before .args .a) (c .before .before .before .before .before .before .before .only-of .result) (c .before .before .before .before .before .before .work-out .result)
+spends : (c : tie.Else4) → Spends (c .before .before .before .before .before .before .before .before .before .before .before .before .before .before .args .a) (c .before .before .before .before .before .before .before .charged-units .result) (c .before .before .before .before .before .before .work-out .result)
 spends c =
-    let e = c .before .before .before .before .before .before .before .only-of .ensures in
+    let e = c .before .before .before .before .before .before .before .charged-units .ensures in
     record {
       steady = c .before .before .before .before .before .before .before .before .before .before .before .before .before .before .pre;
       ready = rw e (is-ready (c .before .before .before .before .before .before .before .before));
@@ -58,20 +58,17 @@ within-requires c κs = search needs
 returns-2 : tie.Need-returns-2
 returns-2 c = used-4 (c .before .before .before .before .args .a) (c .before .before .before .before .args .k) (c .before .before .before .before .args .n) (somewhere (c .before .before)) (sym (c .before .within .ensures) ∙ not-true (c .before .within .result) (c .if2 .taken))
 
-amount-requires : tie.Need-amount-requires
-amount-requires c κs = search needs
-
-add-if3 : tie.Need-add-if3
-add-if3 c = omega (arith, c .amount .ensures, kind-most (c .before .before .before .before .before .args .k) (c .before .before .before .before .before .args .a) (c .before .before .before .before .before .pre .figures), few (c .before .before .before .before .before .args .n) 1000000000 (in-range (c .before)))
+overfills-requires : tie.Need-overfills-requires
+overfills-requires c κs = (c .before .before .before .before .pre .figures, few _ _ (in-range c))
 
 returns-3 : tie.Need-returns-3
-returns-3 c = used-5 (c .before .before .before .before .before .before .args .a) (c .before .before .before .before .before .before .args .k) (c .before .before .before .before .before .before .args .n) (somewhere (c .before .before .before .before)) (in-range (c .before .before)) (omega (arith, c .if3 .taken, c .before .amount .ensures))
+returns-3 c = used-5 (c .before .before .before .before .before .before .args .a) (c .before .before .before .before .before .before .args .k) (c .before .before .before .before .before .before .args .n) (somewhere (c .before .before .before .before)) (in-range (c .before .before)) (sym (c .before .overfills .ensures) ∙ c .if3 .taken)
 
-only-of-requires : tie.Need-only-of-requires
-only-of-requires c κs = search needs
+charged-units-requires : tie.Need-charged-units-requires
+charged-units-requires c κs = search needs
 
 work-out-requires : tie.Need-work-out-requires
-work-out-requires c κs = rw (c .only-of .ensures) (is-ready (c .before))
+work-out-requires c κs = rw (c .charged-units .ensures) (is-ready (c .before))
 
 sub-if4 : tie.Need-sub-if4
 sub-if4 c = omega (arith, charges (c .before .before))
@@ -83,18 +80,22 @@ add-if4 : tie.Need-add-if4
 add-if4 c = omega (arith, charges (c .before .before .before .before))
 
 returns-4 : tie.Need-returns-4
-returns-4 c = used-6 (c .before .before .before .before .before .before .before .before .before .before .before .before .before .before .args .a) (c .before .before .before .before .before .before .before .before .before .before .before .before .before .before .args .k) (c .before .before .before .before .before .before .before .before .before .before .before .before .before .before .args .n) (somewhere (c .before .before .before .before .before .before .before .before .before .before .before .before)) (in-range (c .before .before .before .before .before .before .before .before .before .before)) (in-lifetime (c .before .before .before .before .before .before .before .before)) (omega (arith, cost-eq (c .before .before .before .before .before .before), c .if4 .taken))
+returns-4 c = used-6 (c .before .before .before .before .before .before .before .before .before .before .before .before .before .before .args .a) (c .before .before .before .before .before .before .before .before .before .before .before .before .before .before .args .k) (c .before .before .before .before .before .before .before .before .before .before .before .before .before .before .args .n) (somewhere (c .before .before .before .before .before .before .before .before .before .before .before .before)) (in-range (c .before .before .before .before .before .before .before .before .before .before)) (in-room (c .before .before .before .before .before .before .before .before)) (omega (arith, cost-eq (c .before .before .before .before .before .before), c .if4 .taken))
 
 charge-on-requires : tie.Need-charge-on-requires
 charge-on-requires c κs = spends c
 
+only-of-requires : tie.Need-only-of-requires
+only-of-requires c κs = search needs
+
 spend-requires : tie.Need-spend-requires
-spend-requires c κs = spends (c .before)
+spend-requires c κs = let d = c .before .before .before .before .before .before .before .before .before .before .before .before .before .before .before .before in
+    (spends (c .before .before), rw (c .only-of .ensures) (lifetime-room (d .args .a) (d .args .k) (d .args .n) (d .pre .figures) (in-room (c .before .before .before .before .before .before .before .before .before .before))))
 
 returns-5 : tie.Need-returns-5
-returns-5 c = let e = c .before .before .before .before .before .before .before .before .before .only-of .ensures in
-    simp (c .spend .ensures, c .before .charge-on .ensures, e)
-    (used-yes (c .before .before .before .before .before .before .before .before .before .before .before .before .before .before .before .before .args .a) (c .before .before .before .before .before .before .before .before .before .before .before .before .before .before .before .before .args .k) (c .before .before .before .before .before .before .before .before .before .before .before .before .before .before .before .before .args .n) (somewhere (c .before .before .before .before .before .before .before .before .before .before .before .before .before .before)) (in-range (c .before .before .before .before .before .before .before .before .before .before .before .before)) (in-lifetime (c .before .before .before .before .before .before .before .before .before .before)) (omega (arith, cost-eq (c .before .before .before .before .before .before .before .before), c .before .before .if4 .left)))
+returns-5 c = let d = c .before .before .before .before .before .before .before .before .before .before .before .before .before .before .before .before .before in
+    simp (c .spend .ensures, c .before .only-of .ensures, c .before .before .charge-on .ensures, c .before .before .before .before .before .before .before .before .before .before .charged-units .ensures)
+    (used-yes (d .args .a) (d .args .k) (d .args .n) (somewhere (c .before .before .before .before .before .before .before .before .before .before .before .before .before .before .before)) (in-range (c .before .before .before .before .before .before .before .before .before .before .before .before .before)) (in-room (c .before .before .before .before .before .before .before .before .before .before .before)) (omega (arith, cost-eq (c .before .before .before .before .before .before .before .before .before), c .before .before .before .if4 .left)))
 
 pub use-of-spec : {M : Type 1} → statement M
 use-of-spec =
@@ -104,15 +105,15 @@ use-of-spec =
     returns
     within-requires
     returns-2
-    amount-requires
-    add-if3
+    overfills-requires
     returns-3
-    only-of-requires
+    charged-units-requires
     work-out-requires
     sub-if4
     sub-if4-2
     add-if4
     returns-4
     charge-on-requires
+    only-of-requires
     spend-requires
     returns-5)
