@@ -550,6 +550,11 @@ fn has_spoken_room(account: &Account, n: u64) -> bool {
 
 /// Whether the credit pays for so many more outgoing seconds at a place.
 fn can_pay(account: &Account, place: Place, seconds: u64) -> bool {
+    points_of_seconds(account, place, seconds) <= account.credit
+}
+
+/// What so many more outgoing seconds at a place would take from the credit.
+pub fn points_of_seconds(account: &Account, place: Place, seconds: u64) -> u64 {
     let k = Kind::Outgoing as usize;
     let (mut priced, mut cap_sums) = (account.priced, account.cap_sums);
     if place != Place::Elsewhere {
@@ -558,8 +563,8 @@ fn can_pay(account: &Account, place: Place, seconds: u64) -> bool {
     if place == Place::Zone && account.states[Service::Calls as usize] == State::Surcharged {
         cap_sums[k] += caps_on(account.day)[k] * seconds;
     }
-    let due = home_points(&account.plan, &priced) + extra_points(&cap_sums);
-    due <= account.home + account.extra + account.credit
+    let sums = home_points(&account.plan, &priced) + extra_points(&cap_sums);
+    sums - account.home - account.extra
 }
 
 /// As many zone days as home days, and some.

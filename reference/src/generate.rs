@@ -1,13 +1,13 @@
 //! Random plans and lists of calls from a seed. The maker runs an account
 //! beside the list, so that it can aim at the edges of credit, V and L.
 
-use crate::caps::{caps_on, ROWS};
-use crate::charges::{extra_points, home_points};
+use crate::caps::ROWS;
+use crate::coverage::points_of_seconds;
 use crate::meter::{Account, Answer, LEAST_CHARGED, MAX_LIFETIME, MAX_UNITS};
 use crate::plan::{Plan, BUNDLE, LAST_DAY, MAX_FEE, MAX_PRICE, MAX_VOLUME, PREPAID, UNLIMITED};
 use crate::rng::Rng;
 use crate::services::State;
-use crate::terms::{Call, Kind, Place, Service, GB};
+use crate::terms::{Call, Kind, Place, GB};
 use crate::tripfile::{write, BEFORE_CALLS, MAX_CALLS};
 
 /// Outgoing records about the half minute of 02, 3/13.
@@ -449,7 +449,7 @@ impl Maker {
         for _ in 0..self.rng.between(1, most) {
             let place = self.place();
             self.call(Call::Register(place));
-            let cost = self.half_minute_cost();
+            let cost = points_of_seconds(&self.account, Place::Zone, LEAST_CHARGED);
             let wanted = self.rng.between(cost.saturating_sub(1), cost + 1);
             self.call(Call::TopUp(wanted.saturating_sub(self.account.credit)));
             self.call(Call::Afford(Kind::Outgoing));
@@ -461,19 +461,6 @@ impl Maker {
                 self.call(Call::NextDay);
             }
         }
-    }
-
-    /// What half a minute of an outgoing call in the zone would cost now.
-    fn half_minute_cost(&self) -> u64 {
-        let account = &self.account;
-        let k = Kind::Outgoing as usize;
-        let (mut priced, mut cap_sums) = (account.priced, account.cap_sums);
-        priced[k] += LEAST_CHARGED;
-        if account.states[Service::Calls as usize] == State::Surcharged {
-            cap_sums[k] += caps_on(account.day)[k] * LEAST_CHARGED;
-        }
-        let sums = home_points(&account.plan, &priced) + extra_points(&cap_sums);
-        sums - account.home - account.extra
     }
 
     /// Outgoing seconds up to their limit, where they are free, with short

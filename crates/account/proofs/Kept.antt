@@ -9,13 +9,12 @@ use lib.Dec.{ltb}
 use borrow.Author.Tests.{leb-false, ltb-true, ltb-false, le-leb}
 use Rattle.tariff.specs.declared.Units.{Units}
 use Rattle.tariff.specs.declared.Kind.{Kind}
-use Rattle.tariff.specs.declared.Kind.the-variants.{Data, Outgoing, Incoming, Sms}
 use Rattle.tariff.specs.declared.Place.{Place}
 use Rattle.tariff.specs.declared.Plan.{Plan}
 use Rattle.tariff.specs.declared.Allowance.{Allowance}
 use Rattle.tariff.specs.declared.Allowance.the-variants.{NoLimit, Kilobytes}
 use Rattle.tariff.specs.Tests.{all, between, verdict-of, is-accepted}
-use Rattle.tariff.specs.Units.{_⊕_, only, of-kind, AtMost}
+use Rattle.tariff.specs.Units.{_⊕_, only, AtMost}
 use Rattle.tariff.specs.Caps.{built-in, caps-on}
 use Rattle.tariff.specs.Charges.{home-charges-of, surcharges-of}
 use Rattle.tariff.specs.Plan.{is-prepaid, open-bundle, plan-verdict, credit-allowance, plan-allowance, plan-reasons, plan-in-range, unused-empty, prices-in-range, terms-in-range}

@@ -6,7 +6,6 @@ use mathlib.Core.Bool.{true}
 use mathlib.Core.List.{List, [], _∷_}
 use native.Mathlib.Omega.{arith}
 use lib.ListN.{getD}
-use Rattle.tariff.specs.declared.Units.{Units}
 use Rattle.tariff.specs.declared.Kind.{Kind}
 use Rattle.tariff.specs.declared.Kind.the-variants.{Data, Outgoing}
 use Rattle.tariff.specs.declared.Place.{Place}
@@ -29,9 +28,9 @@ use Rattle.account.specs.Answers.{open-answer}
 use Rattle.account.proofs.Kept.{Sound, sound-passes, sound-step, sound-opened}
 use Rattle.machine.specs.Machine.{Event, accepted, boundaries, first-segment, later-segments, segments, cuts, stretches}
 use Rattle.machine.specs.Machine as machine
-use Rattle.ledger.specs.Lists.{run, is-boundary, units-of, seconds-of, Taken, taken, none-taken, account-calls}
+use Rattle.ledger.specs.Lists.{run, is-boundary, units-of, Taken, taken, none-taken, account-calls}
 use Rattle.ledger.specs.Demand3.{OpensAs}
-use Rattle.ledger.specs.Example.{free-plan, used-between, used-after, EndIsNotEnough, short-and-long, two-halves, units-alone, UnitsAreNotEnough}
+use Rattle.ledger.specs.Example.{free-plan, used-between, used-after, EndIsNotEnough, units-alone, UnitsAreNotEnough}
 
 -- ---- three accepted calls from a sound account
 

@@ -51,9 +51,11 @@ pub record Taken : Type 0 where
 abbrev pub taken : Account → Call → Taken
 taken a c = record { units = units-of c; seconds = seconds-of (a .state .place) c }
 
+-- nothing, as a call takes that is no use
 abbrev pub none-taken : Taken
 none-taken = record { units = zero-units; seconds = 0 }
 
+-- both together, kind by kind
 abbrev pub both-taken : Taken → Taken → Taken
 both-taken t v = record { units = t .units ⊕ v .units; seconds = t .seconds + v .seconds }
 

@@ -1,8 +1,6 @@
 -- Two lists of calls with the same cuts show the same states exactly when their stretches have the same units: for any machine that keeps the laws of
 -- `Lawful`. Assumes nothing.
-use Prim.Native.Nat.{ℕ, suc, _≤_}
 use mathlib.Core.Path.{_≡_, refl, sym, _∙_, ap}
-use mathlib.Core.Logic.{_↔_}
 use mathlib.Core.Bool.{Bool, true, false, cond}
 use mathlib.Core.List.{List, [], _∷_}
 use native.Mathlib.Omega.{arith}

@@ -1,8 +1,8 @@
 -- 01, "Lists of calls and the book", for any state that calls are made on: which calls of a list are accepted, the cuts among them, the stretches
 -- between the cuts, the states just before each cut and at the end, and the match of two lists. The account is a case (`ledger`). Assumes nothing.
-use Prim.Native.Nat.{ℕ, _+_}
+use Prim.Native.Nat.{_+_}
 use mathlib.Core.Path.{_≡_}
-use mathlib.Core.Bool.{Bool, true, false, cond, _&&_}
+use mathlib.Core.Bool.{Bool, cond, _&&_}
 use mathlib.Core.Logic.{_↔_}
 use mathlib.Core.List.{List, [], _∷_}
 use lib.ListN.{length}

@@ -9,7 +9,7 @@ use Rattle.tariff.specs.declared.Kind.the-variants.{Data, Outgoing, Incoming, S
 use Rattle.tariff.specs.declared.Place.the-variants.{Home, Zone, Elsewhere}
 use Rattle.tariff.specs.declared.Plan.{Plan}
 use Rattle.tariff.specs.declared.Allowance.{Allowance}
-use Rattle.tariff.specs.Units.{each, zero-units, only, AtMost}
+use Rattle.tariff.specs.Units.{zero-units, only, AtMost}
 use Rattle.tariff.proofs.Sums.{only-order}
 use Rattle.tariff.proofs.Charges.{billed-bounded, after-allowance-bounded}
 use Rattle.presence.specs.declared.Location.{Location}

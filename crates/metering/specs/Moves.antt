@@ -19,6 +19,7 @@ use Rattle.presence.specs.Day.{in-zone, empty-day, mark-day}
 use Rattle.presence.specs.Service.{services-after}
 use Rattle.metering.specs.declared.State.{State}
 
+-- every service Clear
 abbrev pub all-clear : Services
 all-clear = record { internet = Clear; calls = Clear; messages = Clear }
 

@@ -1,4 +1,4 @@
--- 01, "Account and its calls", Use: which units bear home price and surcharge, what that makes of the account's sums, and the answer.
+-- 01, "Account and its calls", Use, with 02, 3/13: which units bear home price and surcharge, what that makes of the account's sums, and the answer.
 -- All but the log: a use leaves the log as it is. Assumes nothing.
 use Prim.Native.Nat.{ℕ, _+_, _-_, max}
 use mathlib.Core.Bool.{Bool, false, cond, _&&_}

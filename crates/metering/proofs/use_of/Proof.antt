@@ -7,7 +7,7 @@ use Rattle.metering.specs.Needs.{bill-of, Ready, Spends}
 use Rattle.metering.proofs.Billing.{Grown, grown, cost-is}
 use Rattle.metering.proofs.Verdicts.{used-3, used-4, used-5, used-6, used-yes, ready, lifetime-room, few}
 use borrow.Author.Tests.{not-true, not-false}
-use Prim.Native.Nat.{_+_, _-_, _≤_}
+use Prim.Native.Nat.{_+_, _-_}
 use mathlib.Core.Bool.{true, false}
 use mathlib.Core.Path.{_≡_, sym, _∙_, ap}
 use native.Mathlib.Omega.{arith}
