@@ -1,4 +1,4 @@
-# Used by ./statement and ./test: the toolchain's version, one build at a time, and a build that shows how far it is.
+# Used by ./statement, ./explain and ./test: the toolchain's version, one build at a time, and a build that shows how far it is.
 # `here` is the top of the repository. What is said of the work goes to standard error.
 
 logs=$here/logs
@@ -10,8 +10,10 @@ other_toolchain() {
     [ "$found" = "$made" ] || printf 'the proofs were made with "%s", and here is "%s"\n' "$made" "$found"
 }
 
-# Takes the lock on target/, which is kept until the script and all that it started have ended.
+# Takes the lock on target/, which is kept until the script and all that it started have ended. What ./test runs goes
+# on under the test's own.
 lock() { # NAME
+    [ "${target_locked:-no}" = no ] || return 0
     mkdir -p "$logs" && exec 9>>"$logs/lock" || return 1
     flock -n 9 && return
     echo "$1: waiting for another build or test of this repository to end" >&2

@@ -256,6 +256,7 @@ fn check_file(rng: &mut Rng, events: &mut TripEvents) -> Result<(), Failure> {
     let got = tripfile::read(bytes);
     let number = got.as_ref().err().copied().unwrap_or(0);
     events.file(number)?;
+    events.plan_of_file(bytes, number);
     let right = sample.expected.is_none_or(|expected| expected == number);
     demand(right, || {
         format!("file {number}, made for {:?}", sample.expected)
@@ -284,6 +285,7 @@ fn check_write(rng: &mut Rng, events: &mut TripEvents) -> Result<(), Failure> {
     let mut buffer = case.buffer.clone();
     let answer = case.run(REFERENCE.write, &mut buffer);
     events.write(case.expected)?;
+    events.plan_of_write(&case, case.expected);
     let length = match case.expected {
         0 => BEFORE_CALLS + 8 * case.codes.len(),
         number => {

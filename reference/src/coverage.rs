@@ -2,11 +2,14 @@
 
 use crate::caps::{caps_on, search};
 use crate::charges::{extra_points, home_points};
+use crate::faults::{faults_of, unused_too_large, Fault, Sort, Words, PAIRS};
 use crate::matching::Trace;
 use crate::meter::{charged_units, Account, Answer, LEAST_CHARGED, MAX_LIFETIME, MAX_UNITS};
-use crate::plan::{BUNDLE, UNLIMITED};
+use crate::plan::{Plan, BUNDLE, MAX_FEE, MAX_PRICE, MAX_VOLUME, UNLIMITED};
 use crate::services::{window, DayCount, Log, State, Window, LOG_DAYS, SHORT_DAYS};
 use crate::terms::{Call, Kind, Place, Service};
+use crate::tripfile::{find, PLAN_KIND};
+use crate::writes::WriteCase;
 use std::collections::{BTreeMap, BTreeSet};
 
 const REFUSALS: [&str; 10] = [
@@ -72,9 +75,84 @@ const RECORDS: [[&str; 4]; 3] = [
     ],
 ];
 
+/// Reading a plan with one fault, by `Fault` (02, 4/13).
+const ONE_FAULT: [&str; 13] = [
+    "file 1, unknown form",
+    "file 1, fee of a prepaid plan",
+    "file 1, V of a prepaid plan",
+    "file 1, V of an unlimited plan",
+    "file 1, data price of an unlimited plan",
+    "file 17, data price",
+    "file 17, minute price",
+    "file 17, SMS price",
+    "file 18, fee of a bundle",
+    "file 18, fee of an unlimited plan",
+    "file 18, V 0 of a bundle",
+    "file 18, V of a bundle too large",
+    "file 2, start day",
+];
+
+/// One fault, and that an unused field which is too large as well: fee, V, data
+/// price.
+const UNUSED_LARGE: [&str; 3] = [
+    "file 1, unused fee too large",
+    "file 1, unused V too large",
+    "file 1, unused data price too large",
+];
+
+/// Reading a plan with faults of two sorts, by `PAIRS`.
+const TWO_FAULTS: [&str; 8] = [
+    "file 1, unknown form and price",
+    "file 1, unused field and price",
+    "file 1, unused field and start day",
+    "file 17, price and fee",
+    "file 17, price and V",
+    "file 17, price and start day",
+    "file 18, fee and start day",
+    "file 18, V and start day",
+];
+
+/// The same in writing, where the form is a known one.
+const TWO_FAULTS_WRITTEN: [&str; 7] = [
+    "write 1, unused field and price",
+    "write 1, unused field and start day",
+    "write 17, price and fee",
+    "write 17, price and V",
+    "write 17, price and start day",
+    "write 18, fee and start day",
+    "write 18, V and start day",
+];
+
+/// Plans at their limits that were read.
+const PLAN_EDGES: [&str; 7] = [
+    "file read, data price 1,000,000",
+    "file read, minute price 1,000,000",
+    "file read, SMS price 1,000,000",
+    "file read, fee 10,000,000 of a bundle",
+    "file read, fee 10,000,000 of an unlimited plan",
+    "file read, V 1",
+    "file read, V 1,073,741,824",
+];
+
+/// The plan's number told though 14 would hold, or 15.
+const PLAN_FIRST: [[&str; 4]; 2] = [
+    [
+        "write 1 before 14",
+        "write 17 before 14",
+        "write 18 before 14",
+        "write 2 before 14",
+    ],
+    [
+        "write 1 before 15",
+        "write 17 before 15",
+        "write 18 before 15",
+        "write 2 before 15",
+    ],
+];
+
 /// Every event that a set of random trips must reach. Refusal 0 cannot arise
-/// from a list, and 1 and 2 are those of files.
-pub const EVENTS: [&str; 110] = [
+/// from a list, and 1, 2, 17 and 18 are those of files.
+pub const EVENTS: [&str; 160] = [
     "refusal 3",
     "refusal 4",
     "refusal 5",
@@ -91,6 +169,39 @@ pub const EVENTS: [&str; 110] = [
     "file 13",
     "file 14",
     "file 15",
+    "file 17",
+    "file 18",
+    ONE_FAULT[0],
+    ONE_FAULT[1],
+    ONE_FAULT[2],
+    ONE_FAULT[3],
+    ONE_FAULT[4],
+    ONE_FAULT[5],
+    ONE_FAULT[6],
+    ONE_FAULT[7],
+    ONE_FAULT[8],
+    ONE_FAULT[9],
+    ONE_FAULT[10],
+    ONE_FAULT[11],
+    ONE_FAULT[12],
+    UNUSED_LARGE[0],
+    UNUSED_LARGE[1],
+    UNUSED_LARGE[2],
+    TWO_FAULTS[0],
+    TWO_FAULTS[1],
+    TWO_FAULTS[2],
+    TWO_FAULTS[3],
+    TWO_FAULTS[4],
+    TWO_FAULTS[5],
+    TWO_FAULTS[6],
+    TWO_FAULTS[7],
+    PLAN_EDGES[0],
+    PLAN_EDGES[1],
+    PLAN_EDGES[2],
+    PLAN_EDGES[3],
+    PLAN_EDGES[4],
+    PLAN_EDGES[5],
+    PLAN_EDGES[6],
     "section found",
     "find 10",
     "find 11",
@@ -102,6 +213,23 @@ pub const EVENTS: [&str; 110] = [
     "write 14",
     "write 15",
     "write 16",
+    "write 17",
+    "write 18",
+    TWO_FAULTS_WRITTEN[0],
+    TWO_FAULTS_WRITTEN[1],
+    TWO_FAULTS_WRITTEN[2],
+    TWO_FAULTS_WRITTEN[3],
+    TWO_FAULTS_WRITTEN[4],
+    TWO_FAULTS_WRITTEN[5],
+    TWO_FAULTS_WRITTEN[6],
+    PLAN_FIRST[0][0],
+    PLAN_FIRST[0][1],
+    PLAN_FIRST[0][2],
+    PLAN_FIRST[0][3],
+    PLAN_FIRST[1][0],
+    PLAN_FIRST[1][1],
+    PLAN_FIRST[1][2],
+    PLAN_FIRST[1][3],
     "data warned",
     "calls warned",
     "SMS warned",
@@ -283,6 +411,8 @@ impl TripEvents {
             13 => "file 13",
             14 => "file 14",
             15 => "file 15",
+            17 => "file 17",
+            18 => "file 18",
             _ => return Err(format!("{number} is no number of reading")),
         };
         self.hit(event, true);
@@ -312,10 +442,68 @@ impl TripEvents {
             14 => "write 14",
             15 => "write 15",
             16 => "write 16",
+            17 => "write 17",
+            18 => "write 18",
             _ => return Err(format!("{number} is no number of writing")),
         };
         self.hit(event, true);
         Ok(())
+    }
+
+    /// The faults and limits of a file's plan, with the number that reading
+    /// gave. A file that was declined before its plan's values has none.
+    pub fn plan_of_file(&mut self, bytes: &[u8], number: u32) {
+        if !matches!(number, 0 | 1 | 2 | 17 | 18) {
+            return;
+        }
+        let Some(words) = find(bytes, PLAN_KIND).ok().and_then(words_of) else {
+            return;
+        };
+        let faults = faults_of(&words);
+        if let [fault] = faults[..] {
+            let told = number == fault.number();
+            self.hit(ONE_FAULT[fault as usize], told);
+            if unused_too_large(fault, &words) {
+                self.hit(UNUSED_LARGE[unused_field(fault)], told);
+            }
+        }
+        if let Some(pair) = pair_of(&faults) {
+            let told = number == PAIRS[pair].0.number();
+            self.hit(TWO_FAULTS[pair], told);
+        }
+        if number == 0 {
+            self.plan_edges(&Plan::from_words(words.map(|word| word as u32)));
+        }
+    }
+
+    /// A plan that was read.
+    fn plan_edges(&mut self, plan: &Plan) {
+        let prices = [plan.data_price, plan.minute_price, plan.sms_price];
+        for (event, price) in PLAN_EDGES.into_iter().zip(prices) {
+            self.hit(event, price == MAX_PRICE);
+        }
+        let fee = plan.fee == MAX_FEE;
+        self.hit(PLAN_EDGES[3], fee && plan.form == BUNDLE);
+        self.hit(PLAN_EDGES[4], fee && plan.form == UNLIMITED);
+        self.hit(PLAN_EDGES[5], plan.volume == 1);
+        self.hit(PLAN_EDGES[6], plan.volume == MAX_VOLUME);
+    }
+
+    /// The faults of a plan that was to be written, and whether the calls were
+    /// wrong as well, with the number that the writer gave.
+    pub fn plan_of_write(&mut self, case: &WriteCase, number: u32) {
+        let faults = faults_of(&case.plan);
+        // The first pair is of an unknown form, which no write has.
+        if let Some(pair @ 1..) = pair_of(&faults) {
+            let told = number == PAIRS[pair].0.number();
+            self.hit(TWO_FAULTS_WRITTEN[pair - 1], told);
+        }
+        let Some(place) = [1, 17, 18, 2].iter().position(|told| *told == number) else {
+            return;
+        };
+        let counts = case.has_wrong_count();
+        self.hit(PLAN_FIRST[0][place], counts);
+        self.hit(PLAN_FIRST[1][place], !counts && case.has_wrong_call());
     }
 
     /// A call with the account before it, which may be an outline, and the
@@ -541,6 +729,31 @@ impl TripEvents {
         self.hit("cleared as a home day joined", cleared && units && joined);
         self.hit("123 off days", off == LOG_DAYS);
     }
+}
+
+/// The words of a plan body, if it has seven.
+fn words_of(body: &[u8]) -> Option<Words> {
+    let word = |bytes: &[u8]| Some(u64::from(u32::from_le_bytes(bytes.try_into().ok()?)));
+    let words: Option<Vec<u64>> = body.chunks(4).map(word).collect();
+    words?.try_into().ok()
+}
+
+/// Which of `UNUSED_LARGE` a fault of an unused field is about.
+fn unused_field(fault: Fault) -> usize {
+    match fault {
+        Fault::PrepaidFee => 0,
+        Fault::UnlimitedDataPrice => 2,
+        _ => 1,
+    }
+}
+
+/// The pair of sorts that the faults of a plan are of, and of no others.
+fn pair_of(faults: &[Fault]) -> Option<usize> {
+    let has = |sort: Sort| faults.iter().any(|fault| fault.sort() == sort);
+    PAIRS.iter().position(|(first, second)| {
+        let mut all = faults.iter().map(|fault| fault.sort());
+        has(*first) && has(*second) && all.all(|sort| sort == *first || sort == *second)
+    })
 }
 
 /// Whether n more outgoing seconds keep refusal 5's limit as spoken.

@@ -1,6 +1,7 @@
 //! Trip files made by hand: sound ones with other sections and orders, and
 //! damaged ones for each number of reading.
 
+use crate::faults::bad_plan;
 use crate::generate::any_plan;
 use crate::plan::Plan;
 use crate::rng::Rng;
@@ -59,7 +60,7 @@ pub fn resum(bytes: &mut [u8]) {
 pub fn sample(rng: &mut Rng) -> Sample {
     let plan = any_plan(rng);
     let mut sections = sound_sections(rng, &plan);
-    let (bytes, expected) = match rng.below(11) {
+    let (bytes, expected) = match rng.below(12) {
         0 => (assemble(&sections), Some(0)),
         1 => (wrong_length(rng, assemble(&sections)), Some(10)),
         2 => (wrong_sum(rng, assemble(&sections)), Some(11)),
@@ -67,14 +68,11 @@ pub fn sample(rng: &mut Rng) -> Sample {
         4 => (wrong_kinds(rng, &mut sections), Some(13)),
         5 => (wrong_bodies(rng, &mut sections), Some(14)),
         6 => (wrong_calls(rng, &mut sections), Some(15)),
-        7 => (wrong_plan(rng, &mut sections, plan), Some(1)),
-        8 => {
-            let start = rng.pick(&[0, 180, 3834, u32::MAX]);
-            let words = Plan { start, ..plan }.to_words();
-            *body_of(&mut sections, 1) = to_bytes(&words);
-            (assemble(&sections), Some(2))
+        7..=9 => {
+            let number = wrong_plan(rng, &mut sections);
+            (assemble(&sections), Some(number))
         }
-        9 => (scrambled(rng, assemble(&sections)), None),
+        10 => (scrambled(rng, assemble(&sections)), None),
         _ => (changed_word(rng, assemble(&sections)), None),
     };
     Sample { bytes, expected }
@@ -278,7 +276,7 @@ fn wrong_bodies(rng: &mut Rng, sections: &mut [Section]) -> Vec<u8> {
 /// 15: one call with a bad code or number; the plan may be bad too.
 fn wrong_calls(rng: &mut Rng, sections: &mut [Section]) -> Vec<u8> {
     if rng.chance(30) {
-        *body_of(sections, 1) = to_bytes(&[9; 7]);
+        wrong_plan(rng, sections);
     }
     let calls = body_of(sections, 2);
     let at = 2 * rng.below(calls.len() as u64 / 8) as usize;
@@ -289,25 +287,12 @@ fn wrong_calls(rng: &mut Rng, sections: &mut [Section]) -> Vec<u8> {
     assemble(sections)
 }
 
-/// 1: a plan outside its ranges; the start day may be outside too.
-fn wrong_plan(rng: &mut Rng, sections: &mut [Section], plan: Plan) -> Vec<u8> {
-    let mut words = plan.to_words();
-    match rng.below(5) {
-        0 => words[0] = rng.pick(&[3, 4, u32::MAX]),
-        1 => words[rng.between(2, 4) as usize] = rng.pick(&[1_000_001, u32::MAX]),
-        2 => words[5] = rng.pick(&[10_000_001, u32::MAX]),
-        3 => words[6] = rng.pick(&[1_073_741_825, u32::MAX]),
-        _ => match plan.form {
-            0 => words[5 + rng.below(2) as usize] = 1,
-            1 => words[6] = 0,
-            _ => words[rng.pick(&[2, 6])] = 1,
-        },
-    }
-    if rng.chance(30) {
-        words[1] = 180;
-    }
-    *body_of(sections, 1) = to_bytes(&words);
-    assemble(sections)
+/// 1, 17, 18 or 2: puts a plan with faults in place of the sound one; answers
+/// its number.
+fn wrong_plan(rng: &mut Rng, sections: &mut [Section]) -> u32 {
+    let (words, number) = bad_plan(rng, true, &[u64::from(u32::MAX)]);
+    *body_of(sections, 1) = to_bytes(&words.map(|word| word as u32));
+    number
 }
 
 /// Several random bytes, with or without the right sum.

@@ -145,6 +145,7 @@ impl Differ {
         self.files += 1;
         let number = self.compare(&sample.bytes, afford, &mut rng, &mut events)?;
         let told = events.file(number);
+        events.plan_of_file(&sample.bytes, number);
         let told = told.and_then(|()| self.find(&sample.bytes, &mut rng, &mut events));
         told.map_err(|what| Mismatch::other(what, sample.bytes))?;
         self.coverage.add(&events);
@@ -333,6 +334,7 @@ impl Differ {
         }
         let number = answer.saturating_sub(WRITE_REFUSED) as u32;
         events.write(number)?;
+        events.plan_of_write(case, number);
         Ok((number, theirs))
     }
 

@@ -126,9 +126,14 @@ fn short(mut rng: Rng) -> Case {
     maker.finish()
 }
 
-/// A plan of any form with prices, fee and V from 0 to their limits.
+/// A plan of any form; see `plan_of`.
 pub fn any_plan(rng: &mut Rng) -> Plan {
     let form = rng.pick(&[PREPAID, BUNDLE, UNLIMITED]);
+    plan_of(rng, form)
+}
+
+/// A plan of a form with prices, fee and V from their least to their limits.
+pub fn plan_of(rng: &mut Rng, form: u32) -> Plan {
     let price = |rng: &mut Rng| match rng.below(6) {
         0 => 0,
         1 => MAX_PRICE,

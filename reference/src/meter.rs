@@ -78,19 +78,14 @@ struct Charge {
 }
 
 impl Account {
-    /// Open: 1 plan outside its ranges; 2 start day outside 181 to 3833.
+    /// Open: 1, 17, 18, 2, all of them about the plan.
     pub fn open(plan: Plan) -> Result<Account, u32> {
         Account::open_at(plan, &caps_on(plan.start))
     }
 
     /// Open with the caps as an argument.
     pub fn open_at(plan: Plan, caps: &Caps) -> Result<Account, u32> {
-        if !plan.in_ranges() {
-            return Err(1);
-        }
-        if !plan.starts_in_range() {
-            return Err(2);
-        }
+        plan.check()?;
         Ok(Account {
             plan,
             day: plan.start,
@@ -121,8 +116,7 @@ impl Account {
 
     /// Plan, day, log length, Warned counts and L.
     fn days_sound(&self) -> bool {
-        self.plan.in_ranges()
-            && self.plan.starts_in_range()
+        self.plan.check().is_ok()
             && day_in_range(self.day)
             && self.day >= self.plan.start
             && self.log.len() == LOG_DAYS.min((self.day - self.plan.start) as usize)

@@ -1,5 +1,6 @@
 //! The plan, its ranges, and the zone data limit worked out from a cap.
 
+use crate::planted::{planted, Wrong};
 use crate::terms::GB;
 
 pub const PREPAID: u32 = 0;
@@ -13,7 +14,7 @@ pub const MAX_FEE: u32 = 10_000_000;
 pub const MAX_VOLUME: u32 = 1_073_741_824;
 
 /// A plan as the seven words of its section: form, start day, three home
-/// prices, fee, V. The form may be any word; see `in_ranges`.
+/// prices, fee, V. The form may be any word; see `check`.
 #[derive(Clone, Copy, PartialEq, Eq, Debug)]
 pub struct Plan {
     pub form: u32,
@@ -52,21 +53,62 @@ impl Plan {
         }
     }
 
-    /// Refusal 1: prices, fee and V in their ranges, unused fields 0.
-    pub fn in_ranges(&self) -> bool {
-        let prices = [self.data_price, self.minute_price, self.sms_price];
-        let form_keeps = match self.form {
-            PREPAID => self.fee == 0 && self.volume == 0,
-            BUNDLE => self.fee <= MAX_FEE && (1..=MAX_VOLUME).contains(&self.volume),
-            UNLIMITED => self.fee <= MAX_FEE && self.data_price == 0 && self.volume == 0,
-            _ => false,
-        };
-        form_keeps && prices.iter().all(|price| *price <= MAX_PRICE)
+    /// The first reason to decline the plan, in the order of 02, 4/13: 1, 17,
+    /// 18, 2. Opening, reading and writing all ask here.
+    pub fn check(&self) -> Result<(), u32> {
+        let first = self.reasons().into_iter().find(|(_, holds)| *holds);
+        first.map_or(Ok(()), |(number, _)| Err(number))
     }
 
-    /// Refusal 2: start day from 181 to 3833.
-    pub fn starts_in_range(&self) -> bool {
-        day_in_range(self.start)
+    /// Each reason, in order, with whether it holds by itself. After 1 the
+    /// fields that the form leaves out are known to be 0, so that the ranges
+    /// need not look at the form, but for the least V.
+    fn reasons(&self) -> [(u32, bool); 4] {
+        let mut all = [
+            (1, !self.keeps_form()),
+            (17, !self.prices_in_range()),
+            (18, !self.fee_and_volume_in_range()),
+            (2, !day_in_range(self.start)),
+        ];
+        if planted(Wrong::FeeBeforePrices) {
+            all.swap(1, 2);
+        }
+        if planted(Wrong::PricesBeforeUnused) {
+            all.swap(0, 1);
+        }
+        if planted(Wrong::DayBeforeFee) {
+            all.swap(2, 3);
+        }
+        if planted(Wrong::PricesToldAsForm) {
+            all[1].0 = 1;
+        }
+        all
+    }
+
+    /// Refusal 1: the form is one of the three, and what it has no use for is 0.
+    fn keeps_form(&self) -> bool {
+        let past_range = planted(Wrong::UnusedToldAsFee);
+        let unused = |word: u32, most: u32| word == 0 || (past_range && word > most);
+        let no_volume = unused(self.volume, MAX_VOLUME);
+        match self.form {
+            PREPAID => unused(self.fee, MAX_FEE) && no_volume,
+            BUNDLE => true,
+            UNLIMITED => self.data_price == 0 && no_volume,
+            _ => false,
+        }
+    }
+
+    /// Refusal 17: none of the three prices is too high.
+    fn prices_in_range(&self) -> bool {
+        let prices = [self.data_price, self.minute_price, self.sms_price];
+        prices.into_iter().all(|price| price <= MAX_PRICE)
+    }
+
+    /// Refusal 18: neither fee nor V is too large, and a bundle with a volume
+    /// has some.
+    fn fee_and_volume_in_range(&self) -> bool {
+        let none = self.form == BUNDLE && self.volume == 0 && !planted(Wrong::NoVolumeAccepted);
+        self.fee <= MAX_FEE && self.volume <= MAX_VOLUME && !none
     }
 
     pub fn is_prepaid(&self) -> bool {

@@ -66,10 +66,26 @@ pub enum Wrong {
     ChargedSecondsNotLimited,
     /// Half a minute is added to every outgoing zone record.
     HalfMinuteAdded,
+    /// A plan's fee and V are looked at before its prices.
+    FeeBeforePrices,
+    /// Prices are looked at before the fields that the form leaves out: a
+    /// data price without volume limit that is too high, too, is 17.
+    PricesBeforeUnused,
+    /// A fee or V that the form leaves out is told as 18 where it is too large,
+    /// too.
+    UnusedToldAsFee,
+    /// The start day is looked at before fee and V.
+    DayBeforeFee,
+    /// A bundle without any kB of volume is opened.
+    NoVolumeAccepted,
+    /// A price that is too high is still told as 1.
+    PricesToldAsForm,
+    /// The writer counts codes and numbers before it looks at the plan.
+    CountBeforePlan,
 }
 
 impl Wrong {
-    pub const ALL: [Wrong; 29] = [
+    pub const ALL: [Wrong; 36] = [
         Wrong::RoundsEachRecord,
         Wrong::LimitFromTopUp,
         Wrong::SurchargesTwice,
@@ -99,6 +115,13 @@ impl Wrong {
         Wrong::PrevalenceByChargedSeconds,
         Wrong::ChargedSecondsNotLimited,
         Wrong::HalfMinuteAdded,
+        Wrong::FeeBeforePrices,
+        Wrong::PricesBeforeUnused,
+        Wrong::UnusedToldAsFee,
+        Wrong::DayBeforeFee,
+        Wrong::NoVolumeAccepted,
+        Wrong::PricesToldAsForm,
+        Wrong::CountBeforePlan,
     ];
 }
 

@@ -3,11 +3,13 @@
 //! this crate's meter gives.
 
 use crate::damage::{assemble, resum, set, to_bytes};
+use crate::explain::{explained, with_words};
 use crate::meter::{Account, Answer};
 use crate::plan::{Plan, BUNDLE, PREPAID, UNLIMITED};
 use crate::statement::{figures_of, statement};
 use crate::terms::{Kind, Place};
 use crate::tripfile::{write, BEFORE_CALLS, MAX_CALLS, MAX_FILE};
+use std::path::Path;
 
 /// A trip file, or bytes that are none.
 #[derive(Clone, Debug)]
@@ -19,6 +21,12 @@ pub struct StoredCase {
 
 /// Where the inputs of `statement` are, by pairs NAME.trip and NAME.out.
 pub const STATEMENT_FOLDER: &str = "examples/statement";
+
+/// Where those of `explain` are, likewise; the texts have their words.
+pub const EXPLAIN_FOLDER: &str = "examples/explain";
+
+/// The sentences of the refusal numbers, in the repository.
+pub const SENTENCES: &str = "refusals.txt";
 
 /// Code and number of a call.
 type Words = (u32, u32);
@@ -40,7 +48,7 @@ const FERRY_CALLS: [Words; 6] = [
 ];
 
 /// The cases that the program `statement` is run on, too.
-const OF_STATEMENT: [&str; 17] = [
+const OF_STATEMENT: [&str; 22] = [
     "ferry",
     "empty",
     "eleven_bytes",
@@ -51,6 +59,11 @@ const OF_STATEMENT: [&str; 17] = [
     "code_8",
     "form_3",
     "start_180",
+    "price_1000001",
+    "volume_0",
+    "price_and_fee",
+    "unused_too_large",
+    "fee_and_day",
     "limit_none",
     "off_days_cleared",
     "row_of_1826",
@@ -60,12 +73,35 @@ const OF_STATEMENT: [&str; 17] = [
     "largest_and_a_word",
 ];
 
+/// The cases of the program `explain`: trips, then a bad file for each number
+/// that reading gives, in the order in which it looks.
+const OF_EXPLAIN: [&str; 14] = [
+    "ferry",
+    "half_minute",
+    "limit_none",
+    "every_refusal",
+    "eleven_bytes",
+    "other_start_day",
+    "gap_before_calls",
+    "no_calls_section",
+    "plan_of_32_bytes",
+    "code_8",
+    "form_3",
+    "price_1000001",
+    "volume_0",
+    "start_180",
+];
+
 /// All cases, in the order in which they are stored.
 pub fn cases() -> Vec<StoredCase> {
     let mut all = vec![case("ferry", "the example of 01", ferry())];
     all.extend(bad_tables());
     all.extend(bad_bodies());
+    all.extend(bad_prices());
+    all.extend(bad_fees());
+    all.extend(two_faults());
     all.extend(trips());
+    all.extend(plan_trips());
     all.extend(service_trips());
     all.extend(off_day_trips());
     all.extend(row_trips());
@@ -79,6 +115,11 @@ pub fn statement_cases() -> Vec<StoredCase> {
     let mut all = cases();
     all.retain(|case| OF_STATEMENT.contains(&case.name));
     all
+}
+
+/// Those of `explain`.
+pub fn explain_cases() -> Vec<StoredCase> {
+    OF_EXPLAIN.map(named).to_vec()
 }
 
 fn case(name: &'static str, what: &'static str, bytes: Vec<u8>) -> StoredCase {
@@ -210,6 +251,152 @@ fn bad_bodies() -> Vec<StoredCase> {
             "start_180",
             "2: a start day before the first",
             ferry_with(10, 180),
+        ),
+    ]
+}
+
+/// A bundle that Open accepts, of two GB a month.
+const BUNDLE_PLAN: [u32; 7] = [BUNDLE, 1461, 10_000, 600, 500, 5000, 2_097_152];
+/// An unlimited one.
+const UNLIMITED_PLAN: [u32; 7] = [UNLIMITED, 1461, 0, 600, 500, 5000, 0];
+
+/// The example's calls under a plan with some of its seven words altered.
+fn altered_plan(mut plan: [u32; 7], words: &[(usize, u32)]) -> Vec<u8> {
+    for (index, word) in words {
+        plan[*index] = *word;
+    }
+    any_file(&plan, &FERRY_CALLS)
+}
+
+/// Document 02, 4/13: 17.
+fn bad_prices() -> Vec<StoredCase> {
+    let with = |index| altered_plan(FERRY_PLAN, &[(index, 1_000_001)]);
+    vec![
+        case(
+            "price_1000001",
+            "17: a data price of 1,000,001 points a GB",
+            with(2),
+        ),
+        case(
+            "minute_price_1000001",
+            "17: a price of 1,000,001 points an outgoing minute",
+            with(3),
+        ),
+        case(
+            "sms_price_1000001",
+            "17: a price of 1,000,001 points an SMS",
+            with(4),
+        ),
+    ]
+}
+
+/// Document 02, 4/13: 18.
+fn bad_fees() -> Vec<StoredCase> {
+    vec![
+        case(
+            "fee_10000001",
+            "18: a bundle with a fee of 10,000,001 points",
+            altered_plan(BUNDLE_PLAN, &[(5, 10_000_001)]),
+        ),
+        case(
+            "unlimited_fee_10000001",
+            "18: an unlimited plan with a fee of 10,000,001 points",
+            altered_plan(UNLIMITED_PLAN, &[(5, 10_000_001)]),
+        ),
+        case(
+            "volume_0",
+            "18: a bundle with a V of 0 kB",
+            altered_plan(BUNDLE_PLAN, &[(6, 0)]),
+        ),
+        case(
+            "volume_1073741825",
+            "18: a bundle with a V of 1,073,741,825 kB",
+            altered_plan(BUNDLE_PLAN, &[(6, 1_073_741_825)]),
+        ),
+    ]
+}
+
+/// Document 02, 4/13: the number that is told first, where two would do.
+fn two_faults() -> Vec<StoredCase> {
+    vec![
+        case(
+            "price_and_fee",
+            "17: a bundle with an SMS price of 1,000,001 and a fee of 10,000,001 points",
+            altered_plan(BUNDLE_PLAN, &[(4, 1_000_001), (5, 10_000_001)]),
+        ),
+        case(
+            "unused_and_price",
+            "1: a prepaid plan with a V of 1 kB and a data price of 1,000,001 points",
+            altered_plan(FERRY_PLAN, &[(2, 1_000_001), (6, 1)]),
+        ),
+        case(
+            "fee_and_day",
+            "18: a bundle with a fee of 10,000,001 points that starts on day 180",
+            altered_plan(BUNDLE_PLAN, &[(1, 180), (5, 10_000_001)]),
+        ),
+        case(
+            "unused_too_large",
+            "1: a prepaid plan with a fee of 10,000,001 points",
+            altered_plan(FERRY_PLAN, &[(5, 10_000_001)]),
+        ),
+        case(
+            "form_3_and_price",
+            "1: a plan of form 3 with a price of 1,000,001 points an outgoing minute",
+            altered_plan(FERRY_PLAN, &[(0, 3), (3, 1_000_001)]),
+        ),
+    ]
+}
+
+/// Under a bundle with every field at its limit: a minute and an SMS at home, a
+/// million points each; then zone data up to a GB past V, and all SMS that the
+/// credit pays for.
+fn largest_plan() -> Vec<u8> {
+    let most = 1_000_000;
+    let plan = [BUNDLE, 1461, most, most, most, 10_000_000, 1_073_741_824];
+    let calls = [
+        (6, 10_000_000),
+        HOME,
+        (2, 1_048_576),
+        (3, 60),
+        (5, 1),
+        ZONE,
+        (2, 1_000_000_000),
+        (2, 73_741_824),
+        (5, 7),
+        (5, 1),
+    ];
+    file(plan, &calls)
+}
+
+/// A trip in which a call is refused by each number that a call of a file can
+/// be refused by, and calls of each kind are accepted.
+fn every_refusal() -> Vec<u8> {
+    let top_up = (6, 10_000_000);
+    let mut calls = vec![(2, 1), (6, 0), (6, 10_000_001), top_up];
+    calls.extend([HOME, (2, 1_048_576), (2, 0), (3, 60), (4, 60)]);
+    calls.extend([(5, 1_000_000_001), (3, 1_000_000), ZONE, (3, 1), (4, 7)]);
+    calls.extend([(2, 1_000_000_000), (2, 47_988_797), (2, 1_048_576)]);
+    calls.extend([ELSEWHERE, (2, 1000), (3, 5), (4, 5)]);
+    calls.extend([(5, 1_000_000_000); 1000]);
+    calls.extend([(5, 1), NEXT_DAY, NEXT_DAY]);
+    calls.extend([top_up; 99]);
+    calls.extend([(6, 1), HOME, (3, 90)]);
+    file([PREPAID, 3832, 5000, 600, 500, 0, 0], &calls)
+}
+
+fn plan_trips() -> Vec<StoredCase> {
+    vec![
+        case(
+            "largest_plan",
+            "a bundle with all prices, fee and V at their limits: 60 s out and 1 SMS at home, 1 GB past V in the zone, \
+             7 SMS there, and one more, refused by 6",
+            largest_plan(),
+        ),
+        case(
+            "every_refusal",
+            "prepaid, refused by 3, 7 (0 and 10,000,001), 4 (0 and 1,000,000,001), 6, 5 (1,000 uses of 1,000,000,000 SMS, \
+             then 1), 9 and 8 (100 top-ups of 10,000,000, then 1), with accepted calls between",
+            every_refusal(),
         ),
     ]
 }
@@ -605,7 +792,34 @@ pub fn files() -> Vec<(String, Vec<u8>)> {
         all.push((format!("{STATEMENT_FOLDER}/{name}.trip"), bytes));
         all.push((format!("{STATEMENT_FOLDER}/{name}.out"), printed));
     }
+    all.extend(explain_files());
     all
+}
+
+/// The file and the text of the program `explain` alone, and those of the
+/// command with its words.
+fn explain_files() -> Vec<(String, Vec<u8>)> {
+    let StoredCase { bytes, .. } = named("ferry");
+    let printed = explained(&bytes).into_bytes();
+    let mut all = vec![
+        ("crates/explain/stdin".to_string(), bytes),
+        ("crates/explain/stdout".to_string(), printed),
+    ];
+    let table = sentences_table();
+    for StoredCase { name, bytes, .. } in explain_cases() {
+        let printed = with_words(&explained(&bytes), &table).into_bytes();
+        all.push((format!("{EXPLAIN_FOLDER}/{name}.trip"), bytes));
+        all.push((format!("{EXPLAIN_FOLDER}/{name}.out"), printed));
+    }
+    all
+}
+
+/// The table of sentences, as it stands in the repository.
+pub fn sentences_table() -> String {
+    let place = Path::new(env!("CARGO_MANIFEST_DIR"))
+        .join("..")
+        .join(SENTENCES);
+    std::fs::read_to_string(place).expect("a table of sentences")
 }
 
 /// The case of a name.

@@ -97,7 +97,7 @@ pub fn find(bytes: &[u8], kind: u32) -> Result<&[u8], u32> {
     only(bytes, &table(bytes)?, kind)
 }
 
-/// Reading: 10, 11, 12, 13, 14, 15, then 1, 2.
+/// Reading: 10, 11, 12, 13, 14, 15, then 1, 17, 18, 2.
 pub fn read(bytes: &[u8]) -> Result<Trip, u32> {
     let entries = table(bytes)?;
     let plan_body = only(bytes, &entries, PLAN_KIND)?;
@@ -108,7 +108,7 @@ pub fn read(bytes: &[u8]) -> Result<Trip, u32> {
     let calls: Vec<(u32, u32)> = CallReader::new(calls_body).collect();
     check_calls(calls.iter().copied())?;
     let plan = Plan::from_words(std::array::from_fn(|i| word(plan_body, 4 * i)));
-    check_plan(&plan)?;
+    plan.check()?;
     Ok(Trip { plan, calls })
 }
 
@@ -119,17 +119,6 @@ fn check_calls(mut calls: impl Iterator<Item = (u32, u32)>) -> Result<(), u32> {
         Ok(())
     } else {
         Err(15)
-    }
-}
-
-/// 1, 2, as for Open.
-fn check_plan(plan: &Plan) -> Result<(), u32> {
-    if !plan.in_ranges() {
-        Err(1)
-    } else if !plan.starts_in_range() {
-        Err(2)
-    } else {
-        Ok(())
     }
 }
 
@@ -163,17 +152,21 @@ impl Iterator for CallReader<'_> {
     }
 }
 
-/// Writing: 1, 2; 14 no calls, over 8,184, or unequal counts; 15; 16 buffer
-/// too short. Answers the file's length; bytes after the file stay, and a
+/// Writing: 1, 17, 18, 2; 14 no calls, over 8,184, or unequal counts; 15; 16
+/// buffer too short. Answers the file's length; bytes after the file stay, and a
 /// refusal writes nothing.
 pub fn write(plan: &Plan, codes: &[u32], numbers: &[u32], buf: &mut [u8]) -> Result<usize, u32> {
     let calls = codes.iter().copied().zip(numbers.iter().copied());
     if planted(Wrong::CallsBeforePlan) {
         check_calls(calls.clone())?;
     }
-    check_plan(plan)?;
     let count = codes.len();
-    if count == 0 || count > MAX_CALLS || numbers.len() != count {
+    let wrong_count = count == 0 || count > MAX_CALLS || numbers.len() != count;
+    if planted(Wrong::CountBeforePlan) && wrong_count {
+        return Err(14);
+    }
+    plan.check()?;
+    if wrong_count {
         return Err(14);
     }
     let length = BEFORE_CALLS + 8 * count;

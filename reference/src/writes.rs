@@ -1,9 +1,10 @@
 //! What the writer is asked to write: what a file was read as, and random
 //! plans, calls and buffers with none, one or several reasons to decline them.
 
+use crate::faults::bad_plan;
 use crate::generate::any_plan;
-use crate::plan::{BUNDLE, PREPAID};
 use crate::rng::Rng;
+use crate::terms::Call;
 use crate::tripfile::{Trip, BEFORE_CALLS, MAX_CALLS};
 
 /// A writer: plan, codes, numbers, buffer; see `Side`.
@@ -39,25 +40,27 @@ impl WriteCase {
         }
     }
 
-    /// A random write. Each of the five reasons is there in one of five
-    /// cases, so that all sets of them arise; the first in 01's order counts.
+    /// A random write. The plan is bad in two of five cases, and each of the
+    /// other reasons is there in one of five, so that all sets of them arise;
+    /// the first in 01's order counts.
     pub fn random(rng: &mut Rng) -> WriteCase {
         let mut plan = any_plan(rng).to_words().map(u64::from);
         let (mut codes, mut numbers) = right_calls(rng);
         let mut short = false;
         let mut expected = 0;
-        for number in [16, 15, 14, 2, 1] {
+        for number in [16, 15, 14] {
             if !rng.chance(20) {
                 continue;
             }
             expected = number;
             match number {
-                1 => plan_out_of_range(rng, &mut plan),
-                2 => plan[1] = rng.pick(&NO_START_DAYS),
                 14 => wrong_count(rng, &mut codes, &mut numbers),
                 15 => wrong_call(rng, &mut codes, &mut numbers),
                 _ => short = true,
             }
+        }
+        if rng.chance(40) {
+            (plan, expected) = bad_plan(rng, false, &WIDE);
         }
         let need = BEFORE_CALLS + 8 * codes.len();
         let room = room(rng, need, short);
@@ -75,6 +78,18 @@ impl WriteCase {
         writer(&self.plan, &self.codes, &self.numbers, buffer)
     }
 
+    /// Whether 14 would decline it under a good plan.
+    pub fn has_wrong_count(&self) -> bool {
+        let count = self.codes.len();
+        count != self.numbers.len() || !(1..=MAX_CALLS).contains(&count)
+    }
+
+    /// Whether 15 would, the counts aside.
+    pub fn has_wrong_call(&self) -> bool {
+        let mut calls = self.codes.iter().zip(&self.numbers);
+        calls.any(|(code, number)| Call::from_words(*code, *number).is_none())
+    }
+
     /// What is written, in a line.
     pub fn outline(&self) -> String {
         format!(
@@ -87,7 +102,8 @@ impl WriteCase {
     }
 }
 
-const NO_START_DAYS: [u64; 6] = [0, 180, 3834, 1 << 31, (1 << 32) + 181, u64::MAX];
+/// The last word of 32 bits, the first number above it, and the last number.
+const WIDE: [u64; 3] = [(1 << 32) - 1, 1 << 32, u64::MAX];
 
 /// Room for so many bytes and up to 40 more, or for fewer.
 fn room(rng: &mut Rng, need: usize, short: bool) -> usize {
@@ -116,26 +132,6 @@ fn right_call(rng: &mut Rng) -> (u32, u32) {
         _ => rng.word() as u32,
     };
     (code, number)
-}
-
-/// 1: a price, fee or V above its range, or a field that the form leaves out.
-fn plan_out_of_range(rng: &mut Rng, plan: &mut [u64; 7]) {
-    let wide = [(1 << 32) - 1, 1 << 32, u64::MAX];
-    let above = |rng: &mut Rng, most: u64| match rng.below(4) {
-        0 => rng.pick(&wide),
-        _ => most + 1,
-    };
-    let unused = match plan[0] as u32 {
-        PREPAID => rng.pick(&[5, 6]),
-        BUNDLE => 6,
-        _ => rng.pick(&[2, 6]),
-    };
-    match rng.below(4) {
-        0 => plan[rng.between(2, 4) as usize] = above(rng, 1_000_000),
-        1 => plan[5] = above(rng, 10_000_000),
-        2 => plan[6] = above(rng, 1_073_741_824),
-        _ => plan[unused] = u64::from(plan[0] as u32 != BUNDLE),
-    }
 }
 
 /// 14: no calls, one more than a file can hold, or unequal counts.

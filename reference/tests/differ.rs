@@ -2,8 +2,10 @@
 //! wrong in one point are found.
 
 use reference::caps::{self, Search};
-use reference::coverage::TripEvents;
+use reference::coverage::{TripEvents, EVENTS};
 use reference::differ::{Differ, Mismatch, LAST_DAY};
+use reference::faults::{bad_plan, faults_of, first_number};
+use reference::plan::Plan;
 use reference::rng::Rng;
 use reference::sides::{Side, REFERENCE, WRITE_REFUSED};
 use reference::terms::Kind;
@@ -62,6 +64,20 @@ fn one_point_of_surcharge_is_found() {
 fn another_file_number_is_found() {
     let statement = |file: &[u8], out: &mut [u64]| match (REFERENCE.statement)(file, out) {
         14 => 13,
+        number => number,
+    };
+    let other = Side {
+        statement,
+        ..REFERENCE
+    };
+    assert_eq!(found(other), "the statements differ");
+}
+
+/// A meter that still has one number for all faults of a plan but its day.
+#[test]
+fn a_price_told_as_1_is_found() {
+    let statement = |file: &[u8], out: &mut [u64]| match (REFERENCE.statement)(file, out) {
+        17 | 18 => 1,
         number => number,
     };
     let other = Side {
@@ -149,24 +165,57 @@ fn writes_are_what_they_are_made_for() {
         assert_eq!(number, case.expected, "{}", case.outline());
         seen.insert(number);
     }
-    assert_eq!(Vec::from_iter(seen), [0, 1, 2, 14, 15, 16]);
+    assert_eq!(Vec::from_iter(seen), [0, 1, 2, 14, 15, 16, 17, 18]);
+}
+
+/// Bad plans get the number of what is wrong with them.
+#[test]
+fn bad_plans_are_what_they_are_made_for() {
+    let mut rng = Rng::new(17);
+    for forms in [true, false] {
+        for _ in 0..2000 {
+            let (words, number) = bad_plan(&mut rng, forms, &[u64::from(u32::MAX)]);
+            assert_eq!(first_number(&faults_of(&words)), number, "{words:?}");
+            let plan = Plan::from_words(words.map(|word| word as u32));
+            assert_eq!(plan.check(), Err(number), "{words:?}");
+            assert!(forms || words[0] <= 2);
+        }
+    }
+}
+
+/// A fifth of the files and writes of a full run come to every event of
+/// reading and writing.
+#[test]
+fn files_and_writes_reach_their_events() {
+    let mut differ = Differ::new(REFERENCE);
+    for seed in 1..=4000 {
+        differ.file(seed).expect("the same meter");
+        differ.write(seed).expect("the same meter");
+    }
+    let of_files = |event: &&str| event.starts_with("file ") || event.starts_with("write ");
+    let few: Vec<&str> = EVENTS
+        .into_iter()
+        .filter(of_files)
+        .filter(|event| differ.coverage.count(event) < 8)
+        .collect();
+    assert_eq!(few, [""; 0]);
 }
 
 /// A number that no operation gives is no event.
 #[test]
 fn unknown_numbers_are_failures() {
     let mut events = TripEvents::default();
-    for number in [0, 1, 2, 10, 11, 12, 13, 14, 15] {
+    for number in [0, 1, 2, 10, 11, 12, 13, 14, 15, 17, 18] {
         assert_eq!(events.file(number), Ok(()));
     }
-    for number in [3, 9, 16, 17, u32::MAX] {
+    for number in [3, 9, 16, 19, u32::MAX] {
         assert!(events.file(number).is_err());
     }
     assert!(events.find(0).is_ok() && events.find(14).is_err());
-    for number in [0, 1, 2, 14, 15, 16] {
+    for number in [0, 1, 2, 14, 15, 16, 17, 18] {
         assert_eq!(events.write(number), Ok(()));
     }
-    for number in [3, 10, 13, 17] {
+    for number in [3, 10, 13, 19] {
         assert!(events.write(number).is_err());
     }
 }

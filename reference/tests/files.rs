@@ -118,6 +118,58 @@ fn order_of_13_14_15_1_2() {
     }
 }
 
+/// The faults of a plan in reading: after 15, and in the order 1, 17, 18, 2.
+#[test]
+fn read_tells_the_faults_of_a_plan_apart() {
+    let bad_calls = to_bytes(&[1, 1, 8, 0]);
+    for (number, words) in bad_plans() {
+        let plan = to_bytes(&words);
+        let bytes = assemble(&[(1, plan.clone()), (2, calls_words())]);
+        assert_eq!(read(&bytes), Err(number), "{words:?}");
+        assert_eq!(statement(&bytes), format!("file {number}\n"));
+        let turned = assemble(&[(2, calls_words()), (7, vec![]), (1, plan.clone())]);
+        assert_eq!(read(&turned), Err(number), "{words:?}");
+        let none = assemble(&[(1, plan.clone()), (2, vec![])]);
+        assert_eq!(read(&none), Err(14));
+        let with_calls = assemble(&[(1, plan), (2, bad_calls.clone())]);
+        assert_eq!(read(&with_calls), Err(15));
+    }
+    for words in GOOD_PLANS {
+        let bytes = assemble(&[(1, to_bytes(&words)), (2, calls_words())]);
+        assert_eq!(read(&bytes).unwrap().plan.to_words(), words);
+    }
+}
+
+/// In writing they come before all others, and nothing is written.
+#[test]
+fn write_tells_the_faults_of_a_plan_first() {
+    let many = vec![7; 8185];
+    let zeros = vec![0; 8185];
+    for (number, words) in bad_plans() {
+        let plan = Plan::from_words(words);
+        let mut buffer = [7u8; 80];
+        for (codes, numbers, room) in [
+            (&[1][..], &[2][..], 80),
+            (&[1], &[2], 71),
+            (&[1], &[3], 80),
+            (&[8], &[0], 0),
+            (&[], &[], 80),
+            (&[1], &[], 0),
+            (&many, &zeros, 80),
+        ] {
+            let got = write(&plan, codes, numbers, &mut buffer[..room]);
+            assert_eq!(got, Err(number), "{words:?}");
+        }
+        assert_eq!(buffer, [7; 80]);
+    }
+    for words in GOOD_PLANS {
+        let mut buffer = [7u8; 80];
+        let plan = Plan::from_words(words);
+        assert_eq!(write(&plan, &[1], &[2], &mut buffer), Ok(72));
+        assert_eq!(read(&buffer[..72]).unwrap().plan, plan);
+    }
+}
+
 #[test]
 fn read_15_codes_and_numbers() {
     for (code, number, fine) in [

@@ -2,12 +2,16 @@
 
 mod common;
 use common::*;
+use reference::damage::{assemble, to_bytes};
 use reference::meter::{Account, Answer};
 use reference::plan::Plan;
 use reference::rng::Rng;
 use reference::services::{Day, State};
 use reference::terms::{Call, Kind, Place};
+use reference::tripfile::{read, write};
+use std::collections::BTreeMap;
 use std::hint::black_box;
+use std::ops::RangeInclusive;
 use std::panic::catch_unwind;
 
 fn every_call() -> Vec<Call> {
@@ -166,27 +170,100 @@ fn any_values_never_overflow() {
 }
 
 #[test]
-fn open_refuses_plans_and_days() {
-    let fine = bundle(181, 1_000_000, 10_000_000, 1_073_741_824);
-    assert!(Account::open(fine).is_ok());
-    let words = fine.to_words();
-    let bad = [(0, 3), (2, 1_000_001), (3, 1_000_001), (4, 1_000_001)];
-    let more = [(5, 10_000_001), (6, 0), (6, 1_073_741_825)];
-    for (index, value) in bad.into_iter().chain(more) {
-        let mut other = words;
-        other[index] = value;
-        assert_eq!(Account::open(Plan::from_words(other)), Err(1));
-        other[1] = 180;
-        assert_eq!(Account::open(Plan::from_words(other)), Err(1));
+fn open_tells_the_faults_of_a_plan_apart() {
+    for words in GOOD_PLANS {
+        let got = Account::open(Plan::from_words(words)).map(|account| account.day);
+        assert_eq!(got, Ok(words[1]), "{words:?}");
     }
-    let unused = [[0, 181, 5, 5, 5, 1, 0], [0, 181, 5, 5, 5, 0, 1]];
-    let further = [[2, 181, 1, 5, 5, 5, 0], [2, 181, 0, 5, 5, 5, 1]];
-    for other in unused.into_iter().chain(further) {
-        assert_eq!(Account::open(Plan::from_words(other)), Err(1));
+    for (number, words) in bad_plans() {
+        let got = Account::open(Plan::from_words(words)).map(|account| account.day);
+        assert_eq!(got, Err(number), "{words:?}");
     }
-    for (start, wanted) in [(180, Err(2)), (3834, Err(2)), (3833, Ok(3833))] {
-        let got = Account::open(Plan { start, ..fine });
-        assert_eq!(got.map(|account| account.day), wanted);
+}
+
+/// What each field may be, by form: start day, prices, fee, V.
+const RANGES: [[RangeInclusive<u32>; 6]; 3] = {
+    const START: RangeInclusive<u32> = 181..=3833;
+    const PRICE: RangeInclusive<u32> = 0..=1_000_000;
+    const FEE: RangeInclusive<u32> = 0..=10_000_000;
+    const UNUSED: RangeInclusive<u32> = 0..=0;
+    [
+        [START, PRICE, PRICE, PRICE, UNUSED, UNUSED],
+        [START, PRICE, PRICE, PRICE, FEE, 1..=1_073_741_824],
+        [START, UNUSED, PRICE, PRICE, FEE, UNUSED],
+    ]
+};
+
+/// The number that a plan must get, 0 if it must be accepted.
+fn number_by_ranges(words: [u32; 7]) -> u32 {
+    let Some(ranges) = RANGES.get(words[0] as usize) else {
+        return 1;
+    };
+    let wrong: Vec<usize> = (0..6)
+        .filter(|i| !ranges[*i].contains(&words[*i + 1]))
+        .collect();
+    if wrong.iter().any(|i| ranges[*i] == (0..=0)) {
+        1
+    } else if wrong.iter().any(|i| [1, 2, 3].contains(i)) {
+        17
+    } else if wrong.iter().any(|i| [4, 5].contains(i)) {
+        18
+    } else if wrong == [0] {
+        2
+    } else {
+        0
+    }
+}
+
+/// Seven words in their ranges, some of them then moved to an edge or past it.
+fn words_near_the_edges(rng: &mut Rng) -> [u32; 7] {
+    let edges: [&[u32]; 7] = [
+        &[0, 1, 2, 3, 4, u32::MAX],
+        &[0, 180, 181, 3833, 3834, u32::MAX],
+        &[0, 1, 999_999, 1_000_000, 1_000_001, u32::MAX],
+        &[0, 1, 999_999, 1_000_000, 1_000_001, u32::MAX],
+        &[0, 1, 999_999, 1_000_000, 1_000_001, u32::MAX],
+        &[0, 1, 9_999_999, 10_000_000, 10_000_001, u32::MAX],
+        &[0, 1, 1_073_741_823, 1_073_741_824, 1_073_741_825, u32::MAX],
+    ];
+    let form = rng.below(3) as u32;
+    let mut words = [form, 1461, 0, 5, 5, 0, u32::from(form == 1)];
+    for _ in 0..rng.between(0, 4) {
+        let at = rng.below(7) as usize;
+        words[at] = rng.pick(edges[at]);
+    }
+    words
+}
+
+/// A plan is accepted just where all ranges are kept, and gets one number at
+/// Open, in reading and in writing.
+#[test]
+fn plans_near_the_edges() {
+    let mut rng = Rng::new(413);
+    let mut seen = BTreeMap::new();
+    for _ in 0..100_000 {
+        let words = words_near_the_edges(&mut rng);
+        let number = number_by_ranges(words);
+        let plan = Plan::from_words(words);
+        let opened = Account::open(plan).err().unwrap_or(0);
+        let bytes = assemble(&[(1, to_bytes(&words)), (2, to_bytes(&[7, 0]))]);
+        let read = read(&bytes).err().unwrap_or(0);
+        let written = write(&plan, &[7], &[0], &mut [0; 72]).err().unwrap_or(0);
+        assert_eq!([opened, read, written], [number; 3], "{words:?}");
+        *seen.entry(number).or_insert(0) += 1;
+    }
+    assert_eq!(Vec::from_iter(seen.keys()), [&0, &1, &2, &17, &18]);
+    assert!(seen.values().all(|count| *count > 1000), "{seen:?}");
+}
+
+/// The plan of a sound account keeps the same ranges: each bad one is unsound.
+#[test]
+fn accounts_under_bad_plans_are_not_sound() {
+    for (number, words) in bad_plans() {
+        let mut account = open(prepaid(1461, 0, 0, 0));
+        account.plan = Plan::from_words(words);
+        assert!(!account.sound(), "{number}, {words:?}");
+        assert_eq!(account.apply(data(1)), Err(0));
     }
 }
 

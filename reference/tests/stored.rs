@@ -4,7 +4,8 @@
 use reference::meter::Account;
 use reference::services::State;
 use reference::statement::{figures_of, statement};
-use reference::stored::{cases, files, named, statement_cases, STATEMENT_FOLDER};
+use reference::stored::{cases, explain_cases, files, named, statement_cases};
+use reference::stored::{EXPLAIN_FOLDER, STATEMENT_FOLDER};
 use reference::terms::{Call, Service};
 use reference::tripfile::read;
 use std::collections::BTreeSet;
@@ -22,9 +23,11 @@ fn stored_files_are_those_of_the_maker() {
         assert!(stored == bytes, "{path} is not what stored_cases makes");
     }
     let made: BTreeSet<PathBuf> = files().iter().map(|f| in_repository(&f.0)).collect();
-    for entry in std::fs::read_dir(in_repository(STATEMENT_FOLDER)).unwrap() {
-        let path = entry.unwrap().path();
-        assert!(made.contains(&path), "{} has no maker", path.display());
+    for folder in [STATEMENT_FOLDER, EXPLAIN_FOLDER] {
+        for entry in std::fs::read_dir(in_repository(folder)).unwrap() {
+            let path = entry.unwrap().path();
+            assert!(made.contains(&path), "{} has no maker", path.display());
+        }
     }
 }
 
@@ -45,7 +48,8 @@ fn statement_is_run_on_each_number_and_length() {
         .into_iter()
         .filter_map(|case| read(&case.bytes).err());
     let numbers: BTreeSet<u32> = numbers.collect();
-    assert_eq!(Vec::from_iter(numbers), [1, 2, 10, 11, 12, 13, 14, 15]);
+    let all = [1, 2, 10, 11, 12, 13, 14, 15, 17, 18];
+    assert_eq!(Vec::from_iter(numbers), all);
     let lengths: BTreeSet<usize> = statement_cases()
         .iter()
         .map(|case| case.bytes.len())
@@ -57,6 +61,16 @@ fn statement_is_run_on_each_number_and_length() {
                  roamed 2097153\npast 1\nrefused 1\n";
     assert_eq!(statement(&named("ferry").bytes), ferry);
     assert!(statement(&named("limit_none").bytes).contains("\nlimit none\n"));
+}
+
+#[test]
+fn explain_is_run_on_trips_and_on_each_number() {
+    let numbers = explain_cases()
+        .into_iter()
+        .filter_map(|case| read(&case.bytes).err());
+    let all = [10, 11, 12, 13, 14, 15, 1, 17, 18, 2];
+    assert_eq!(Vec::from_iter(numbers), all);
+    assert_eq!(explain_cases().len(), 4 + all.len());
 }
 
 /// The states that a service goes through in a case.
@@ -201,6 +215,53 @@ fn charged_seconds_come_to_their_limit_first() {
     assert_eq!(refused, [(1, 5), (21, 5), (1, 5)]);
     assert_eq!(account.charged, 1_000_000_000_000);
     assert_eq!(account.lifetime[1], 999_999_999_971);
+}
+
+/// A million points each for a minute, a GB past V and eight SMS.
+/// L is 2 x 10,000,000 x 1,048,576 / 11,000 = 1,906,501,818.
+#[test]
+fn a_plan_with_every_field_at_its_limit() {
+    let wanted = [
+        1461,
+        10_000_000,
+        0,
+        10_000_000,
+        0,
+        1_906_501_818,
+        1_073_741_824,
+        0,
+        1,
+    ];
+    assert_eq!(all_figures("largest_plan"), wanted);
+}
+
+/// The numbers by which the calls of a case were refused, in order.
+fn refusals(name: &str) -> Vec<u32> {
+    let trip = read(&named(name).bytes).unwrap();
+    let mut account = Account::open(trip.plan).unwrap();
+    let calls = trip.calls.into_iter();
+    let calls = calls.map(|(code, number)| Call::from_words(code, number).unwrap());
+    calls.filter_map(|call| account.apply(call).err()).collect()
+}
+
+/// Home: 1,050,085,949 kB at 5,000 points a GB are 5,007,199 points, and
+/// 60 + 30 + 90 s at ten points 1,800. A GB past L bears 10,000. On entry
+/// L is 9,994,400 x 1,048,576 / 10,000 = 1,047,988,797.
+#[test]
+fn a_trip_with_every_refusal() {
+    assert_eq!(refusals("every_refusal"), [3, 7, 7, 4, 4, 6, 5, 9, 8]);
+    let wanted = [
+        3833,
+        1_000_000_000,
+        994_981_001,
+        5_008_999,
+        10_000,
+        1_047_988_797,
+        1_049_037_373,
+        1_048_576,
+        9,
+    ];
+    assert_eq!(all_figures("every_refusal"), wanted);
 }
 
 #[test]

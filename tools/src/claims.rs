@@ -83,7 +83,7 @@ pub fn rows(text: &str) -> (Vec<Row>, Vec<String>) {
 }
 
 /// The line between a table's head and its rows.
-fn is_rule(line: &str) -> bool {
+pub fn is_rule(line: &str) -> bool {
     line.starts_with('|') && line.contains('-') && line.chars().all(|c| "|-: ".contains(c))
 }
 

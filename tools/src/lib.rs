@@ -1,9 +1,11 @@
-//! What `./test` needs besides the toolchain: the runner of edits and the check of the lists of claims and edits.
+//! What `./test` needs besides the toolchain: the runner of edits and the check of the lists of claims, edits and refusal
+//! numbers.
 pub mod batch;
 pub mod claims;
 pub mod edit;
 pub mod folder;
 pub mod list;
+pub mod refusals;
 pub mod runner;
 pub mod statements;
 pub mod verdict;

@@ -17,7 +17,7 @@ use Rattle.tariff.specs.Tests.{all, between, verdict-of, is-accepted}
 use Rattle.tariff.specs.Units.{_⊕_, only, AtMost}
 use Rattle.tariff.specs.Caps.{built-in, caps-on}
 use Rattle.tariff.specs.Charges.{home-charges-of, surcharges-of}
-use Rattle.tariff.specs.Plan.{is-prepaid, open-bundle, plan-verdict, credit-allowance, plan-allowance, plan-reasons, plan-in-range, unused-empty, prices-in-range, terms-in-range}
+use Rattle.tariff.specs.Plan.{is-prepaid, open-bundle, plan-verdict, credit-allowance, plan-allowance, amount-reasons, plan-reasons, unused-empty, prices-in-range, terms-in-range}
 use Rattle.tariff.proofs.Tests.{all-nil, all-cons, first-fails, rest-accepts, not-false}
 use Rattle.tariff.proofs.Caps.{basis-grows}
 use Rattle.tariff.proofs.Tables.{caps-bound}
@@ -309,5 +309,5 @@ equal-step a b c e = ap (λ (x : Account). step x c) e
 
 -- the account that a refused Open hands back is not sound
 pub no-plan-unsound : sound (opened no-plan) ≡ false
-unfolding sound opened opened-state figures-sound all plan-verdict plan-reasons verdict-of plan-in-range unused-empty prices-in-range terms-in-range
+unfolding sound opened opened-state figures-sound all plan-verdict plan-reasons amount-reasons verdict-of unused-empty prices-in-range terms-in-range
 no-plan-unsound = refl

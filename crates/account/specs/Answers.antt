@@ -31,7 +31,7 @@ use Rattle.account.specs.Calls.{verdict, accepts, step}
 abbrev pub no-plan : Plan
 no-plan = record { form = Prepaid; start = 0; pergb = 0; perminute = 0; persms = 0; fee = 0; volume = 0 }
 
--- Open: 1, 2, or the account
+-- Open: 1, 17, 18, 2, or the account
 unfoldable pub open-answer : Plan → Answered
 open-answer p = record { answer = plan-verdict p; account = cond (is-accepted (plan-verdict p)) (opened p) (opened no-plan) }
 

@@ -190,7 +190,7 @@ pub fn afford_with(state: State, log: &[u64; 1599], k: Kind) -> AffordAnswer
 }
 
 impl Account {
-    // A new account under the plan: refusals 1 and 2. A refused plan leaves an account that is not sound.
+    // A new account under the plan: refusals 1, 17, 18 and 2. A refused plan leaves an account that is not sound.
     pub fn open(p: Plan) -> Answered
         ensures { λ r. ⌜ r ≡ open-answer p ⌝ }
     {

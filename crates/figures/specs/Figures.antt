@@ -1,4 +1,4 @@
--- 01, "Figures": the eleven marked figures, six of 02, 1/13, and six of 02, 2/13, as one table of tests over the definitions that the contracts cite. Assumes nothing.
+-- 01, "Figures": the eleven marked figures, six of 02, 1/13, six of 02, 2/13, and seven of 02, 4/13, as one table of tests over the definitions that the contracts cite. Assumes nothing.
 use Prim.Native.Nat.{ℕ}
 use mathlib.Core.Path.{_≡_}
 use mathlib.Core.Bool.{Bool, true, false, not}
@@ -6,7 +6,7 @@ use mathlib.Core.List.{List, [], _∷_, _++_}
 use lib.Dec.{eqb}
 use lib.ListN.{length, replicate}
 use Rattle.tariff.specs.declared.Units.{Units}
-use Rattle.tariff.specs.Tests.{all}
+use Rattle.tariff.specs.Tests.{all, is-accepted}
 use Rattle.tariff.specs.declared.Form.{Form}
 use Rattle.tariff.specs.declared.Form.the-variants.{Prepaid, Bundle, Unlimited}
 use Rattle.tariff.specs.declared.Plan.{Plan}
@@ -14,8 +14,10 @@ use Rattle.tariff.specs.declared.Allowance.{Allowance}
 use Rattle.tariff.specs.declared.Allowance.the-variants.{NoLimit, Kilobytes}
 use Rattle.tariff.specs.Units.{each, only, zero-units}
 use Rattle.tariff.specs.declared.Kind.the-variants.{Data}
+use Rattle.tariff.specs.declared.Verdict.{Verdict}
+use Rattle.tariff.specs.declared.Verdict.the-variants.{Accepted, Refused}
 use Rattle.tariff.specs.Caps.{built-in, caps-on, search-of}
-use Rattle.tariff.specs.Plan.{open-bundle, credit-allowance, plan-allowance}
+use Rattle.tariff.specs.Plan.{plan-verdict, open-bundle, credit-allowance, plan-allowance}
 use Rattle.tariff.specs.Charges.{home-charges-of}
 use Rattle.presence.specs.declared.Day.{Day}
 use Rattle.presence.specs.declared.Service.the-variants.{DataService}
@@ -33,6 +35,15 @@ bundle f fee volume = record { form = f; start = 181; pergb = 0; perminute = 0; 
 -- a prepaid plan with a data price
 abbrev pub prepaid-at : ℕ → Plan
 prepaid-at price = record { form = Prepaid; start = 181; pergb = price; perminute = 0; persms = 0; fee = 0; volume = 0 }
+
+-- a plan as it is typed in: form, start day, SMS price, fee and volume; the other prices 0
+abbrev pub typed : Form → ℕ → ℕ → ℕ → ℕ → Plan
+typed f day price fee volume = record { form = f; start = day; pergb = 0; perminute = 0; persms = price; fee = fee; volume = volume }
+
+-- the verdict is a refusal with this number
+abbrev pub declines : Verdict → ℕ → Bool
+declines Accepted n = false
+declines (Refused m) n = eqb m n
 
 -- a day marked zone with kB used there
 abbrev pub zone-kb : ℕ → Day
@@ -83,9 +94,19 @@ figures =
     ∷ eqb (search-of built-in 1825 .read) 2
     ∷ eqb (search-of built-in 1826 .read) 1
     ∷ eqb (search-of built-in 3833 .read) 1
+    -- 02, 4/13, two faults at once: price and fee, 17; unused field and price, 1; fee and day, 18
+    ∷ declines (plan-verdict (typed Bundle 181 1000001 10000001 1)) 17
+    ∷ declines (plan-verdict (typed Prepaid 181 1000001 1 0)) 1
+    ∷ declines (plan-verdict (typed Bundle 180 0 10000001 1)) 18
+    -- an unused field that is also too large, 1; a bundle with V 0, 18
+    ∷ declines (plan-verdict (typed Prepaid 181 0 10000001 0)) 1
+    ∷ declines (plan-verdict (typed Bundle 181 0 0 0)) 18
+    -- price and day, 17; everything at the end of its range is accepted
+    ∷ declines (plan-verdict (typed Bundle 180 1000001 0 1)) 17
+    ∷ is-accepted (plan-verdict (typed Bundle 3833 1000000 10000000 1073741824))
     ∷ []
 
 -- 01, "Questions to put to a promise": each of the figures holds of the definitions, all in one statement
 pub record FiguresHold : Type 0 where
-  pub twenty-three : length figures ≡ 23
+  pub thirty : length figures ≡ 30
   pub hold : all figures ≡ true

@@ -11,9 +11,9 @@ use Rattle.tariff.specs.declared.Kind.the-variants.{Data, Outgoing}
 use Rattle.tariff.specs.declared.Place.{Place}
 use Rattle.tariff.specs.declared.Place.the-variants.{Home, Zone}
 use Rattle.tariff.specs.Units.{each, zero-units}
-use Rattle.tariff.specs.Tests.{all, verdict-of, is-accepted}
+use Rattle.tariff.specs.Tests.{verdict-of, is-accepted}
 use Rattle.tariff.specs.Caps.{table-of, built-in, row-at, first-rows, rows-of, caps-from, caps-on}
-use Rattle.tariff.specs.Plan.{plan-verdict, plan-reasons, plan-in-range, unused-empty, prices-in-range, terms-in-range, plan-allowance, open-bundle}
+use Rattle.tariff.specs.Plan.{plan-verdict, plan-reasons, amount-reasons, unused-empty, prices-in-range, terms-in-range, plan-allowance, open-bundle}
 use Rattle.tariff.specs.Charges.{after-first, billed-kb, after-allowance, home-charges-of, surcharges-of}
 use Rattle.presence.specs.Day.{mark-day, add-day}
 use Rattle.metering.specs.Moves.{opened-state, enters, registered}
@@ -73,7 +73,7 @@ abbrev again : Account
 again = after here (Register Home)
 
 plan-taken : is-accepted (plan-verdict free-plan) ≡ true
-unfolding plan-verdict plan-reasons verdict-of plan-in-range all unused-empty prices-in-range terms-in-range
+unfolding plan-verdict plan-reasons amount-reasons verdict-of unused-empty prices-in-range terms-in-range
 plan-taken = refl
 
 sound-start : Sound start
@@ -138,7 +138,7 @@ unfolding second-kb segments first-segment later-segments is-boundary units-of
 none = rw after-is refl
 
 opens : OpensAs free-plan start
-unfolding open-answer plan-verdict plan-reasons verdict-of plan-in-range all unused-empty prices-in-range terms-in-range
+unfolding open-answer plan-verdict plan-reasons amount-reasons verdict-of unused-empty prices-in-range terms-in-range
 opens = refl
 
 pub end-is-not-enough : EndIsNotEnough

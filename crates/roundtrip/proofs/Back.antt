@@ -7,7 +7,7 @@ use native.Mathlib.Omega.{arith}
 use lib.Dec.{eqb, lit<, lit≤}
 use lib.ListN.{length, getD, take, drop}
 use lib.Seq.{take-at, take-all, take-suc}
-use borrow.Author.Tests.{le-ltb, eq-eqb, ne-eqb}
+use borrow.Author.Tests.{eq-eqb, ne-eqb}
 use Rattle.words.specs.Words.{word, bytes-of}
 use Rattle.words.proofs.Written.{length-bytes-of}
 use Rattle.words.proofs.Read.{Fit, fit-of, word-in}
@@ -17,8 +17,9 @@ use Rattle.tariff.specs.declared.Form.the-variants.{Prepaid, Bundle, Unlimited}
 use Rattle.tariff.specs.declared.Verdict.{Verdict}
 use Rattle.tariff.specs.declared.Verdict.the-variants as Told
 use Rattle.tariff.specs.Tests.{verdict-of, is-accepted}
-use Rattle.tariff.specs.Plan.{form-word, form-of, plan-with, plan-reasons, plan-verdict, terms-reasons}
+use Rattle.tariff.specs.Plan.{form-word, form-of, plan-with, plan-verdict, terms-reasons}
 use Rattle.tariff.proofs.Tests.{and-both}
+use Rattle.tariff.proofs.Plans.{known-form}
 use Rattle.sections.specs.Table.{file-verdict}
 use Rattle.sections.specs.Find.{just-once, part-of}
 use Rattle.sections.proofs.Verdicts.{then, accepted-is}
@@ -92,10 +93,9 @@ calls-back xs h =
 -- ---- the whole
 
 terms-accepted : (p : Plan) → PlanFits p → is-accepted (plan-verdict p) ≡ true → is-accepted (verdict-of (terms-reasons (terms-in (bytes-of (plan-words p))))) ≡ true
-unfolding terms-reasons verdict-of plan-verdict
 terms-accepted p s h =
     let t = terms-in (bytes-of (plan-words p)) in
-    rw (le-ltb 2 (t .form) (form-first p s)) (ap (λ (q : Plan). is-accepted (verdict-of (plan-reasons q))) (plan-back p s) ∙ h)
+    rw (known-form t (form-first p s)) (ap (λ (q : Plan). is-accepted (plan-verdict q)) (plan-back p s) ∙ h)
 
 sizes-right : (q k : List ℕ) → length q ≡ 28 → (length k ≡ 0 → ⊥) → length k % 8 ≡ 0 → (eqb (length q) 28 && calls-body-right k) ≡ true
 sizes-right q k a b c = rw (eq-eqb (length q) 28 a, ne-eqb (length k) 0 b, eq-eqb (length k % 8) 0 c)

@@ -3,4 +3,5 @@ pub mod Sums
 pub mod Caps
 pub mod Tables
 pub mod Plans
+pub mod Faults
 pub mod Charges

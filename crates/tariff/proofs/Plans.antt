@@ -1,20 +1,20 @@
 -- What a plan in its ranges tells. Assumes nothing.
-use Prim.Native.Nat.{ℕ, _+_, _*_, _/_, _≤_}
-use mathlib.Core.Path.{_≡_, refl, sym}
-use mathlib.Core.Bool.{Bool, true, false, not, cond, _&&_}
-use mathlib.Core.List.{List, [], _∷_}
+use Prim.Native.Nat.{ℕ, _*_, _/_, _≤_}
+use mathlib.Core.Path.{_≡_, refl, sym, _∙_}
+use mathlib.Core.Bool.{Bool, true, false, not, cond, _&&_, _||_}
 use native.Mathlib.Omega.{arith}
 use native.Mathlib.Nat.{div-le-self, le-trans}
 use lib.Dec.{leb, ltb, eqb}
-use borrow.Author.Tests.{leb-true, le-leb, eqb-true}
+use borrow.Author.Tests.{leb-true, eqb-true, ltb-false, le-ltb}
 use Rattle.tariff.specs.declared.Form.{Form}
 use Rattle.tariff.specs.declared.Form.the-variants.{Prepaid, Bundle, Unlimited}
 use Rattle.tariff.specs.declared.Plan.{Plan}
-use Rattle.tariff.specs.declared.Allowance.{Allowance}
-use Rattle.tariff.specs.declared.Allowance.the-variants.{NoLimit, Kilobytes}
-use Rattle.tariff.specs.Tests.{all, between, verdict-of, is-accepted, because}
-use Rattle.tariff.specs.Plan.{is-prepaid, unused-empty, prices-in-range, terms-in-range, plan-in-range, start-in-range, plan-reasons, plan-verdict, open-bundle, credit-allowance, plan-allowance}
-use Rattle.tariff.proofs.Tests.{and-left, and-right, all-head, all-tail, first-fails, rest-accepts, accepts-cons, not-false}
+use Rattle.tariff.specs.declared.Terms.{Terms}
+use Rattle.tariff.specs.declared.Verdict.{Verdict}
+use Rattle.tariff.specs.declared.Verdict.the-variants.{Accepted, Refused}
+use Rattle.tariff.specs.Tests.{all, between, verdict-of, is-accepted}
+use Rattle.tariff.specs.Plan.{unused-empty, prices-in-range, terms-in-range, plan-in-range, start-in-range, amount-reasons, plan-reasons, plan-verdict, plan-with, terms-reasons}
+use Rattle.tariff.proofs.Tests.{and-left, and-right, all-head, all-tail, first-fails}
 
 -- the plan's prices, fee and volume are bounded
 pub record Ranged (p : Plan) : Type 0 where
@@ -63,22 +63,52 @@ plan-ranged p e =
     let r = paid (p .form) p (all-head _ _ e) (all-head _ _ (all-tail _ _ e1)) in
     record { gigabyte = q .gigabyte; minute = q .minute; message = q .message; money = r .money; kilobytes = r .kilobytes }
 
--- a plan that Open accepts, and the other way round
+-- the verdict by the four tests of a plan
+abbrev pub by-tests : Bool → Bool → Bool → Bool → Verdict
+by-tests u v w d = cond (not u) (Refused 1) (cond (not v) (Refused 17) (cond (not w) (Refused 18) (cond (not d) (Refused 2) Accepted)))
+
+-- a plan is accepted exactly in its ranges, and on a start day in its own
+pub accepted-in-range : (p : Plan) → is-accepted (plan-verdict p) ≡ plan-in-range p && start-in-range p
+unfolding plan-verdict plan-reasons amount-reasons plan-in-range all verdict-of
+accepted-in-range p = go (unused-empty (p .form) p) (prices-in-range p) (terms-in-range (p .form) p) (start-in-range p)
+  where
+    go : (u v w d : Bool) → is-accepted (by-tests u v w d) ≡ u && v && w && d
+    go false v w d = refl
+    go true false w d = refl
+    go true true false d = refl
+    go true true true false = refl
+    go true true true true = refl
+
+-- what an accepted plan tells
 pub record Opens (p : Plan) : Type 0 where
   pub ranges : plan-in-range p ≡ true
   pub early : 181 ≤ p .start
   pub late : p .start ≤ 3833
 
 pub opens-tells : (p : Plan) → is-accepted (plan-verdict p) ≡ true → Opens p
-unfolding plan-verdict plan-reasons
 opens-tells p h =
-    let s = not-false (start-in-range p) (first-fails _ _ (rest-accepts _ _ h)) in
+    let e = sym (accepted-in-range p) ∙ h in
+    let s = and-right (plan-in-range p) (start-in-range p) e in
     let l = leb 181 (p .start) in
     record {
-      ranges = not-false (plan-in-range p) (first-fails _ _ h);
+      ranges = and-left (plan-in-range p) (start-in-range p) e;
       early = leb-true _ _ (and-left l (leb (p .start) 3833) s);
       late = leb-true _ _ (and-right l (leb (p .start) 3833) s);
     }
+
+-- a plan body's words of a known form are judged as their plan is
+pub known-form : (t : Terms) → t .form ≤ 2 → verdict-of (terms-reasons t) ≡ plan-verdict (plan-with t)
+unfolding terms-reasons plan-verdict plan-reasons verdict-of
+known-form t h = rw (le-ltb 2 (t .form) h) refl
+
+-- accepted words are of a known form
+pub form-known : (t : Terms) → is-accepted (verdict-of (terms-reasons t)) ≡ true → t .form ≤ 2
+unfolding terms-reasons
+form-known t h = ltb-false 2 (t .form) (or-left (ltb 2 (t .form)) _ (first-fails _ _ h))
+  where
+    or-left : (s u : Bool) → (s || u) ≡ false → s ≡ false
+    or-left true u e = e
+    or-left false u e = refl
 
 -- no allowance is past 2,000,000,000,000,000 kB
 pub credit-bounded : (credit cap : ℕ) → credit ≤ 1000000000 → credit * 1048576 / cap ≤ 2000000000000000

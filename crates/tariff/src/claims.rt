@@ -1,5 +1,6 @@
-// Claims about tables of caps and the search in them, stated in specs/Claims.antt.
+// Claims about tables of caps and the search in them, stated in specs/Claims.antt, and about the faults of a plan, in specs/Faults.antt.
 ghost use Rattle.tariff.specs.Claims.{RowsOfTable, SearchFindsCaps, RowsRead, RowsTellDays, RightTables};
+ghost use Rattle.tariff.specs.Faults.{PlansAsBefore};
 
 // Every list of rows has a table.
 pub fn rows_of_table()
@@ -24,4 +25,9 @@ pub fn rows_tell_days()
 // What a right table tells; the built-in one is right.
 pub fn right_tables()
     ensures { λ _. ⌜ RightTables ⌝ }
+{}
+
+// With 02, 4/13 the plans accepted are those of 01, and 17 and 18 are what 01 told as 1.
+pub fn plans_as_before()
+    ensures { λ _. ⌜ PlansAsBefore ⌝ }
 {}

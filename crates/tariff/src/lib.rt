@@ -377,16 +377,19 @@ fn terms_fit(f: Form, p: Plan) -> bool
     }
 }
 
-// May an account be opened under the plan? Refusals 1 and 2.
+// May an account be opened under the plan? Refusals 1, 17, 18 and 2.
 pub fn check_plan(p: Plan) -> Verdict
     ensures { λ r. ⌜ r ≡ plan-verdict p ⌝ }
 {
     let form = p.form;
-    let unused = leaves_unused(form, p);
-    let prices = prices_fit(p);
-    let terms = terms_fit(form, p);
-    if !(unused & prices & terms) {
+    if !leaves_unused(form, p) {
         return Verdict::Refused(1);
+    }
+    if !prices_fit(p) {
+        return Verdict::Refused(17);
+    }
+    if !terms_fit(form, p) {
+        return Verdict::Refused(18);
     }
     if !((181 <= p.start) & (p.start <= 3833)) {
         return Verdict::Refused(2);
@@ -407,7 +410,7 @@ fn form_at(word: u64) -> Form
     Form::Unlimited
 }
 
-// The plan of these terms, or the number that declines it: 1, also for an unknown form, then 2.
+// The plan of these terms, or the number that declines it: 1, also for an unknown form, then 17, 18 and 2.
 pub fn plan_from(t: Terms) -> PlanAnswer
     ensures { λ r. ⌜ r ≡ plan-of t ⌝ }
 {

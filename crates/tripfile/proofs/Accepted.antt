@@ -16,7 +16,7 @@ use Rattle.tariff.specs.declared.Verdict.the-variants.{Accepted, Refused}
 use Rattle.tariff.specs.Tests.{because, verdict-of, is-accepted}
 use Rattle.tariff.specs.Plan.{plan-reasons, plan-verdict, plan-with, terms-reasons, plan-answer, plan-of}
 use Rattle.tariff.proofs.Tests.{and-left, and-right, first-fails, rest-accepts, not-false}
-use Rattle.tariff.proofs.Plans.{plan-ranged, opens-tells}
+use Rattle.tariff.proofs.Plans.{plan-ranged, opens-tells, known-form, form-known}
 use Rattle.sections.specs.Table.{file-reasons, file-verdict}
 use Rattle.sections.specs.Find.{just-once, part-of}
 use Rattle.sections.proofs.Verdicts.{then, verdict-append, then-both, and-three}
@@ -25,7 +25,7 @@ use Rattle.tripfile.specs.Bodies.{terms-in, calls-in, calls-right, paire
 use Rattle.tripfile.specs.Reading.{calls-body-right, body-reasons, read-reasons, read-verdict, read-answer}
 use Rattle.tripfile.specs.Writing.{file-size, counts-right, calls-reasons, write-reasons, write-verdict, Ready}
 
--- the fields of a plan that 1 and 2 do not decline are words
+-- the fields of a plan that is accepted are words
 pub plan-fits : (p : Plan) → is-accepted (plan-verdict p) ≡ true → PlanFits p
 plan-fits p h =
     let o = opens-tells p h in
@@ -84,18 +84,19 @@ pub record Bodies (p c : List ℕ) : Type 0 where
   pub plan : is-accepted (plan-verdict (plan-with (terms-in p))) ≡ true
 
 pub bodies : (p c : List ℕ) → is-accepted (verdict-of (body-reasons p c)) ≡ true → Bodies p c
-unfolding body-reasons terms-reasons plan-verdict terms-in
+unfolding body-reasons terms-in
 bodies p c h =
     let h₁₅ = rest-accepts _ _ h in
     let h₁ = rest-accepts _ _ h₁₅ in
+    let known = form-known (terms-in p) h₁ in
     let n = and-three (eqb (length p) 28) (not (eqb (length c) 0)) (eqb (length c % 8) 0) (shift (eqb (length p) 28) (not (eqb (length c) 0)) (eqb (length c % 8) 0) (not-false (eqb (length p) 28 && calls-body-right c) (first-fails _ _ h))) in
     record {
       long = eqb-true _ _ (n .0);
       some = eqb-false (length c) 0 (not-yes (eqb (length c) 0) (n .1));
       eights = eqb-true _ _ (n .2);
       right = not-false (calls-right (calls-in c)) (first-fails _ _ h₁₅);
-      form = ltb-false 2 (word p 0) (first-fails _ _ h₁);
-      plan = rest-accepts _ _ h₁;
+      form = known;
+      plan = ap is-accepted (sym (known-form (terms-in p) known)) ∙ h₁;
     }
   where
     shift : (a b c : Bool) → (a && (b && c)) ≡ true → (a && b && c) ≡ true

@@ -26,7 +26,7 @@ terms-in b = record {
 unfoldable pub plan-words : Plan → List ℕ
 plan-words p = form-word (p .form) ∷ p .start ∷ p .pergb ∷ p .perminute ∷ p .persms ∷ p .fee ∷ p .volume ∷ []
 
--- each of these is a word: what the writer asks of a plan, and every plan that 1 and 2 do not decline keeps
+-- each of these is a word: what the writer asks of a plan, and every accepted plan keeps
 pub record PlanFits (p : Plan) : Type 0 where
   pub start : p .start < 2 ^ 32
   pub gigabyte : p .pergb < 2 ^ 32

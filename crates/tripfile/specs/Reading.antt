@@ -15,18 +15,18 @@ use Rattle.tripfile.specs.declared.Read.{Read}
 use Rattle.tripfile.specs.declared.Read.the-variants.{Trip, Refused}
 use Rattle.tripfile.specs.Bodies.{Call, terms-in, calls-in, calls-right}
 
--- 14, "calls body empty or not a multiple of 8": neither
+-- the calls body is as 14 asks: some whole calls of 8 bytes
 abbrev pub calls-body-right : List ℕ → Bool
 calls-body-right b = not (eqb (length b) 0) && eqb (length b % 8) 0
 
--- "14 plan body not 28, calls body ..; 15 ..; then 1, 2", of the plan body and the calls body
+-- of the plan body and the calls body: 14 their sizes; 15 the calls; then the reasons of the plan's words, 1, 17, 18, 2 (02, 4/13)
 unfoldable pub body-reasons : List ℕ → List ℕ → List Reason
 body-reasons p c =
     because 14 (not (eqb (length p) 28 && calls-body-right c))
     ∷ because 15 (not (calls-right (calls-in c)))
     ∷ terms-reasons (terms-in p)
 
--- "Read: 10; 11; 12; 13 kind 1 or 2 not there just once; 14; 15; then 1, 2"
+-- Read: 10, 11 and 12 of the whole file; 13 unless plan and calls are there once each; then those of the bodies
 unfoldable pub read-reasons : List ℕ → List Reason
 read-reasons f = file-reasons f ++ (because 13 (not (just-once f 1 && just-once f 2)) ∷ body-reasons (part-of f 1) (part-of f 2))
 

@@ -31,7 +31,7 @@ file-words p cs = file-size (length cs) ∷ closing-word (file-size (length cs) 
 abbrev pub file-of : Plan → List Call → List ℕ
 file-of p cs = bytes-of (file-words p cs)
 
--- 14, "no calls, over 8,184, or codes and numbers of unequal count": none of these
+-- codes and numbers are as 14 asks: as many of one as of the other, at least one and at most 8,184
 abbrev pub counts-right : List ℕ → List ℕ → Bool
 counts-right cs ns = not (eqb (length cs) 0) && leb (length cs) 8184 && eqb (length ns) (length cs)
 
@@ -43,7 +43,7 @@ calls-reasons cs ns room =
     ∷ because 16 (ltb room (file-size (length cs)))
     ∷ []
 
--- "Write: 1, 2; 14; 15; 16"
+-- Write: the plan's reasons, 1, 17, 18, 2 (02, 4/13); then 14, 15, 16
 unfoldable pub write-reasons : Plan → List ℕ → List ℕ → ℕ → List Reason
 write-reasons p cs ns room = plan-reasons p ++ calls-reasons cs ns room
 
@@ -51,7 +51,7 @@ write-reasons p cs ns room = plan-reasons p ++ calls-reasons cs ns room
 unfoldable pub write-verdict : Plan → List ℕ → List ℕ → ℕ → Verdict
 write-verdict p cs ns room = verdict-of (write-reasons p cs ns room)
 
--- what filling the buffer asks, which 1, 2, 14 and 16 see to
+-- what filling the buffer asks, which the plan's reasons, 14 and 16 see to
 pub record Ready (p : Plan) (cs ns : List ℕ) (room : ℕ) : Type 0 where
   pub plan : PlanFits p
   pub few : length cs ≤ 8184

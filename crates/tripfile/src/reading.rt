@@ -51,7 +51,7 @@ fn body_right(body: &[u8]) -> bool
     right
 }
 
-// The answer on the two bodies: 14, 15, then 1, 2.
+// The answer on the two bodies: 14, 15, then 1, 17, 18, 2.
 fn read_bodies(plan: &[u8], calls: &[u8]) -> Read
     ensures { λ r. ⌜ r ≡ read-answer (verdict-of (body-reasons (now (plan .entry)) (now (calls .entry)))) (plan-with (terms-in (now (plan .entry)))) (length (now (calls .entry)) / 8) ⌝ }
 {
@@ -72,7 +72,7 @@ fn read_bodies(plan: &[u8], calls: &[u8]) -> Read
     }
 }
 
-// The plan and the number of calls of a file of any bytes: 10, 11, 12, 13, 14, 15, then 1, 2.
+// The plan and the number of calls of a file of any bytes: 10, 11, 12, 13, 14, 15, then 1, 17, 18, 2.
 pub fn read(file: &[u8]) -> Read
     ensures { λ r. ⌜ r ≡ read-of (now (file .entry)) ⌝ }
 {

@@ -72,7 +72,7 @@ fn calls_verdict(codes: &[u32], numbers: &[u32], room: usize) -> Verdict
     Verdict::Accepted
 }
 
-// What a write is declined for: 1, 2, 14, 15, 16.
+// What a write is declined for: 1, 17, 18, 2, 14, 15, 16.
 fn verdict_on(plan: Plan, codes: &[u32], numbers: &[u32], room: usize) -> Verdict
     ensures { λ r. ⌜ r ≡ write-verdict plan (now (codes .entry)) (now (numbers .entry)) room ⌝ }
 {
@@ -112,7 +112,7 @@ fn fill(plan: Plan, codes: &[u32], numbers: &[u32], buf: &mut [u8])
     words::put_word(buf, 1, words::solve(rest));
 }
 
-// The file of a plan and its calls into the buffer, or the number that declines it, with every byte as it was: 1, 2, 14, 15, 16.
+// The file of a plan and its calls into the buffer, or the number that declines it, with every byte as it was: 1, 17, 18, 2, 14, 15, 16.
 pub fn write(plan: Plan, codes: &[u32], numbers: &[u32], buf: &mut [u8]) -> Written
     ensures answer { λ r. ⌜ r ≡ written-of plan (now (codes .entry)) (now (numbers .entry)) (now (buf .entry)) ⌝ }
     ensures buffer { λ _. ⌜ now (buf .exit) ≡ buffer-of plan (now (codes .entry)) (now (numbers .entry)) (now (buf .entry)) ⌝ }

@@ -7,13 +7,15 @@ use std::path::Path;
 
 fn main() -> io::Result<()> {
     let root = Path::new(env!("CARGO_MANIFEST_DIR")).join("..");
-    std::fs::create_dir_all(root.join(stored::STATEMENT_FOLDER))?;
     let files = stored::files();
     let mut changed = 0;
     for (path, bytes) in &files {
         let place = root.join(path);
         if std::fs::read(&place).ok().as_ref() != Some(bytes) {
             println!("{path}: {} bytes", bytes.len());
+            if let Some(folder) = place.parent() {
+                std::fs::create_dir_all(folder)?;
+            }
             std::fs::write(&place, bytes)?;
             changed += 1;
         }

@@ -1,15 +1,17 @@
-//! Holds docs/CLAIMS.md and docs/EDITS.md to the tree, from the top of the repository. If all is well it ends with 0, and its
-//! last lines are `claims: N listed, 0 wrong` and `wrong programs: N listed, 0 wrong`.
+//! Holds docs/CLAIMS.md, docs/EDITS.md and README.md's refusal numbers to the tree, from the top of the repository. If all
+//! is well it ends with 0, and its last lines are `claims: N listed, 0 wrong` and the same of `wrong programs` and `refusal
+//! numbers`.
 use std::path::Path;
 use std::process::ExitCode;
 use tools::claims::{self, Outcome};
-use tools::wrong_programs;
+use tools::{refusals, wrong_programs};
 
 fn main() -> ExitCode {
     let root = Path::new(".");
     let right = [
         told("claims", claims::check(root)),
         told("wrong programs", wrong_programs::check(root)),
+        told("refusal numbers", refusals::check(root)),
     ];
     if right.iter().all(|r| *r) {
         ExitCode::SUCCESS
