@@ -47,10 +47,9 @@ const FERRY_CALLS: [Words; 6] = [
     (5, 1),
 ];
 
-/// The cases that the program `statement` is run on, too.
-const OF_STATEMENT: [&str; 22] = [
-    "ferry",
-    "empty",
+/// A bad file for each number that reading gives, in the order in which it
+/// looks. Both programs are run on them.
+const BAD_FILES: [&str; 10] = [
     "eleven_bytes",
     "other_start_day",
     "gap_before_calls",
@@ -58,9 +57,15 @@ const OF_STATEMENT: [&str; 22] = [
     "plan_of_32_bytes",
     "code_8",
     "form_3",
-    "start_180",
     "price_1000001",
     "volume_0",
+    "start_180",
+];
+
+/// What else the program `statement` is run on.
+const OF_STATEMENT: [&str; 12] = [
+    "ferry",
+    "empty",
     "price_and_fee",
     "unused_too_large",
     "fee_and_day",
@@ -73,24 +78,8 @@ const OF_STATEMENT: [&str; 22] = [
     "largest_and_a_word",
 ];
 
-/// The cases of the program `explain`: trips, then a bad file for each number
-/// that reading gives, in the order in which it looks.
-const OF_EXPLAIN: [&str; 14] = [
-    "ferry",
-    "half_minute",
-    "limit_none",
-    "every_refusal",
-    "eleven_bytes",
-    "other_start_day",
-    "gap_before_calls",
-    "no_calls_section",
-    "plan_of_32_bytes",
-    "code_8",
-    "form_3",
-    "price_1000001",
-    "volume_0",
-    "start_180",
-];
+/// What else the program `explain` is run on.
+const OF_EXPLAIN: [&str; 4] = ["ferry", "half_minute", "limit_none", "every_refusal"];
 
 /// All cases, in the order in which they are stored.
 pub fn cases() -> Vec<StoredCase> {
@@ -112,14 +101,19 @@ pub fn cases() -> Vec<StoredCase> {
 
 /// Those of `statement`.
 pub fn statement_cases() -> Vec<StoredCase> {
-    let mut all = cases();
-    all.retain(|case| OF_STATEMENT.contains(&case.name));
-    all
+    cases_among(&OF_STATEMENT)
 }
 
 /// Those of `explain`.
 pub fn explain_cases() -> Vec<StoredCase> {
-    OF_EXPLAIN.map(named).to_vec()
+    cases_among(&OF_EXPLAIN)
+}
+
+/// The cases of these names, and the bad files.
+fn cases_among(names: &[&str]) -> Vec<StoredCase> {
+    let mut all = cases();
+    all.retain(|case| names.contains(&case.name) || BAD_FILES.contains(&case.name));
+    all
 }
 
 fn case(name: &'static str, what: &'static str, bytes: Vec<u8>) -> StoredCase {
