@@ -12,12 +12,12 @@ fn main() {
         Some(named) => PathBuf::from(named),
         None => own_path("CARGO_MANIFEST_DIR").join("../target/staticlib"),
     };
-    let library = directory.join("libbridge.a");
+    let library = directory.join("libmeter.a");
     println!("cargo:rerun-if-changed={}", library.display());
     if env::var_os("METER_LIB").is_some() || library.exists() {
         let directory = without_panic_handler(&library).unwrap_or(directory);
         println!("cargo:rustc-link-search=native={}", directory.display());
-        println!("cargo:rustc-link-lib=static=bridge");
+        println!("cargo:rustc-link-lib=static=meter");
         println!("cargo:rustc-cfg=proved");
     }
 }
@@ -35,7 +35,7 @@ fn without_panic_handler(library: &Path) -> Option<PathBuf> {
     let made = Command::new("objcopy")
         .args(["--wildcard", "--weaken-symbol=*rust_begin_unwind"])
         .args(["--weaken-symbol=rust_eh_personality"])
-        .args([library, &directory.join("libbridge.a")])
+        .args([library, &directory.join("libmeter.a")])
         .status();
     made.is_ok_and(|status| status.success())
         .then_some(directory)

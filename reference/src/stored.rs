@@ -678,7 +678,7 @@ fn large_files() -> Vec<StoredCase> {
     ]
 }
 
-/// What the program `trip_cases` prints of a file: the figures in a line.
+/// What the program `test_trips` prints of a file: the figures in a line.
 fn line(bytes: &[u8]) -> String {
     let [day, paid, credit, home, extra, known, limit, roamed, past, refused] =
         match figures_of(bytes) {
@@ -692,14 +692,14 @@ fn line(bytes: &[u8]) -> String {
     format!("{day} {paid} {credit} {home} {extra} {limit} {roamed} {past} {refused}")
 }
 
-/// The input of the program `trip_cases`: each file after its length.
-fn trip_cases_input() -> Vec<u8> {
+/// The input of the program `test_trips`: each file after its length.
+fn test_trips_input() -> Vec<u8> {
     let with_length =
         |case: StoredCase| [to_bytes(&[case.bytes.len() as u32]), case.bytes].concat();
     cases().into_iter().flat_map(with_length).collect()
 }
 
-fn trip_cases_output() -> String {
+fn test_trips_output() -> String {
     cases()
         .iter()
         .map(|case| line(&case.bytes) + "\n")
@@ -707,7 +707,7 @@ fn trip_cases_output() -> String {
 }
 
 /// The list of the cases as text.
-fn trip_cases_list() -> String {
+fn test_trips_list() -> String {
     let mut text = "# The stored trip files\n\n\
         `stdin` holds these files, each after its length as a word; `stdout` what the program prints, one line for each.\n\
         `cargo run --release --bin stored_cases` in `reference/` makes all three; the lines come from the second\n\
@@ -721,15 +721,15 @@ fn trip_cases_list() -> String {
     text
 }
 
-/// The calls that the program `account_cost` is asked for: a letter and a
+/// The calls that the program `test_cost` is asked for: a letter and a
 /// digit, which stands for hundreds.
-pub const ACCOUNT_COST: &str = "u1r1t1n1a1";
+pub const TEST_COST: &str = "u1r1t1n1a1";
 
-/// What `account_cost` prints for a letter and a digit: how many calls were
+/// What `test_cost` prints for a letter and a digit: how many calls were
 /// accepted, and the credit, the day or the most that Afford then gives. The
 /// account is prepaid, in the zone, topped up a hundred times by 1,000 points,
 /// and has gone through 130 days.
-fn account_cost_line(letter: char, hundreds: u32) -> String {
+fn test_cost_line(letter: char, hundreds: u32) -> String {
     let plan = Plan::from_words([PREPAID, 181, 1_000_000, 600, 500, 0, 0]);
     let mut account = Account::open(plan).expect("a plan in its ranges");
     let mut accepted = account.register(Place::Zone).is_ok();
@@ -757,28 +757,28 @@ fn account_cost_line(letter: char, hundreds: u32) -> String {
     format!("{letter} {accepted} {shown}\n")
 }
 
-fn account_cost_output() -> String {
-    let letters: Vec<char> = ACCOUNT_COST.chars().collect();
-    let pair = |pair: &[char]| account_cost_line(pair[0], pair[1].to_digit(10).unwrap_or(0));
+fn test_cost_output() -> String {
+    let letters: Vec<char> = TEST_COST.chars().collect();
+    let pair = |pair: &[char]| test_cost_line(pair[0], pair[1].to_digit(10).unwrap_or(0));
     letters.chunks_exact(2).map(pair).collect()
 }
 
 /// All stored files that are made here, by their paths in the repository.
 pub fn files() -> Vec<(String, Vec<u8>)> {
     let mut all = vec![
-        ("crates/trip_cases/stdin".to_string(), trip_cases_input()),
+        ("crates/test_trips/stdin".to_string(), test_trips_input()),
         (
-            "crates/trip_cases/stdout".to_string(),
-            trip_cases_output().into_bytes(),
+            "crates/test_trips/stdout".to_string(),
+            test_trips_output().into_bytes(),
         ),
         (
-            "crates/trip_cases/CASES.md".to_string(),
-            trip_cases_list().into_bytes(),
+            "crates/test_trips/CASES.md".to_string(),
+            test_trips_list().into_bytes(),
         ),
-        ("crates/account_cost/stdin".to_string(), ACCOUNT_COST.into()),
+        ("crates/test_cost/stdin".to_string(), TEST_COST.into()),
         (
-            "crates/account_cost/stdout".to_string(),
-            account_cost_output().into_bytes(),
+            "crates/test_cost/stdout".to_string(),
+            test_cost_output().into_bytes(),
         ),
     ];
     for StoredCase { name, bytes, .. } in statement_cases() {

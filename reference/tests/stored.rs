@@ -292,10 +292,10 @@ fn the_largest_file_takes_all_services_through_all_states() {
 /// nothing; 100 top-ups of 1,000; 100 days after day 311; 104,858 kB cost
 /// 100,000 points, and one more 100,001.
 #[test]
-fn calls_of_account_cost() {
+fn calls_of_test_cost() {
     let (_, bytes) = files()
         .into_iter()
-        .find(|file| file.0 == "crates/account_cost/stdout")
+        .find(|file| file.0 == "crates/test_cost/stdout")
         .unwrap();
     let lines = "u 100 99905\nr 100 100000\nt 100 200000\nn 100 411\na 100 104858\n";
     assert_eq!(String::from_utf8(bytes).unwrap(), lines);

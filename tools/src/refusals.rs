@@ -64,11 +64,26 @@ pub fn words(text: &str) -> Result<BTreeMap<u32, String>, String> {
     Ok(found)
 }
 
+/// The lines of a record, each with those, further in, over which it goes on.
+fn fields(text: &str) -> Vec<String> {
+    let mut found: Vec<String> = Vec::new();
+    for line in text.lines() {
+        match found.last_mut() {
+            Some(field) if line.starts_with("      ") => {
+                field.push(' ');
+                field.push_str(line.trim());
+            }
+            _ => found.push(line.trim().to_string()),
+        }
+    }
+    found
+}
+
 /// The lists of the claim: each field `of-OPERATION` ends in the numbers.
 pub fn orders(text: &str) -> Result<Orders, String> {
     let mut found = Orders::new();
-    for line in text.lines() {
-        let Some(field) = line.trim().strip_prefix("pub of-") else {
+    for line in fields(text) {
+        let Some(field) = line.strip_prefix("pub of-") else {
             continue;
         };
         let parts = (field.split_once(" :"), field.rsplit_once('≡'));

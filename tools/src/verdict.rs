@@ -12,12 +12,15 @@ pub enum Verdict {
     Failed(String),
 }
 
-/// Messages of a proof that names what the edited code no longer has: such a refusal shows nothing.
-const HOLLOW: [&str; 4] = [
+/// Messages of a proof that names what the edited code no longer has, or that answers, in place, another need than
+/// the one that is asked there now: such a refusal shows nothing.
+const HOLLOW: [&str; 6] = [
     "has no `Need-",
     "can be named from here",
     "has no field",
     "not in scope",
+    "this λ has",
+    "`cc` proves only a path",
 ];
 
 pub fn judge(status: Option<i32>, output: &str) -> Verdict {
@@ -127,6 +130,8 @@ mod tests {
             "p/f/Proof.antt:3:1: error: record `After`\n  has no field `args`\nlogic=not-proved\n";
         assert!(matches!(judge(Some(1), out), Verdict::Hollow(_)));
         let out = "specs/Moves.antt:3:1: error: `f`: a type\nlogic=not-proved\n";
+        assert!(matches!(judge(Some(1), out), Verdict::Hollow(_)));
+        let out = "proofs/f/Proof.antt:9:5: error: `f-spec`: this λ has 2 binders\nlogic=not-proved\n";
         assert!(matches!(judge(Some(1), out), Verdict::Hollow(_)));
     }
 

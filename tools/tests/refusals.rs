@@ -8,7 +8,8 @@ const WORDS: &str = "# a comment\n0 Open it again.\n7 Pay less.\n17 Ask less.\n"
 const ORDER: &str = "\
 pub record ReasonsInOrder : Type 0 where
   pub of-open : (p : Plan) → numbers (plan-reasons p) ≡ 17 ∷ []
-  pub of-top-up : (a : Account) (n : ℕ) → numbers (reasons a (TopUp n)) ≡ 0 ∷ 7 ∷ []
+  pub of-top-up : (a : Account) (n : ℕ)
+      → numbers (reasons a (TopUp n)) ≡ 0 ∷ 7 ∷ []
   pub only-these : (rs : List Reason) → among n (numbers rs) ≡ true
 ";
 

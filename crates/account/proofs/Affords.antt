@@ -1,28 +1,21 @@
 -- What Afford returns. Assumes nothing.
-use Prim.Native.Nat.{ℕ, _<_}
+use Prim.Native.Nat.{ℕ}
 use mathlib.Core.Path.{_≡_, refl, sym, _∙_, ap}
-use mathlib.Core.Bool.{Bool, true, false, not, cond}
-use lib.Dec.{leb}
-use borrow.Author.Tests.{leb-true, leb-false, lt-leb}
+use mathlib.Core.Bool.{Bool, true, false, cond}
 use Rattle.tariff.specs.declared.Kind.{Kind}
 use Rattle.tariff.specs.declared.Verdict.the-variants.{Refused}
-use Rattle.tariff.specs.Tests.{verdict-of, is-accepted}
-use Rattle.tariff.proofs.Tests.{and-false}
+use Rattle.tariff.specs.Tests.{verdict-of}
 use Rattle.presence.specs.Day.{is-placed}
-use Rattle.metering.specs.Reasons.{use-reasons}
-use Rattle.afford.specs.Largest.{largest, use-accepted, most-units}
-use Rattle.afford.proofs.Search.{largest-same, largest-passes, largest-last}
+use Rattle.account.specs.Largest.{use-accepted, most-units}
+use Rattle.account.proofs.Search.{largest-same}
 use Rattle.account.specs.declared.Account.{Account}
-use Rattle.account.specs.declared.AffordAnswer.the-variants.{UpTo, Withheld}
-use Rattle.account.specs.declared.Afforded.{Afforded}
+use Rattle.state.specs.declared.StateApplied.{StateApplied}
+use Rattle.state.specs.declared.Answer.the-variants as Told
+use Rattle.account.specs.declared.Applied.{Applied}
 use Rattle.account.specs.declared.Call.the-variants.{Use, Afford}
 use Rattle.account.specs.Whole.{sound}
 use Rattle.account.specs.Calls.{own-reasons, reasons, verdict, accepts, after, step}
-use Rattle.account.specs.Answers.{afford-of, afford-result}
-
-pub afford-unsound : (a : Account) (k : Kind) → sound a ≡ false → _≡_ {A = Afforded} (record { answer = Withheld 0; account = a }) (afford-result a k)
-unfolding afford-result verdict reasons verdict-of step accepts
-afford-unsound a k s = rw s refl
+use Rattle.account.specs.Answers.{afford-of, accepted-answer, applied, applied-state}
 
 accepts-is : (a : Account) (k : Kind) (n : ℕ) → sound a ≡ true → accepts a (Use k n) ≡ use-accepted (a .state) k n
 unfolding accepts verdict reasons own-reasons verdict-of use-accepted
@@ -33,12 +26,12 @@ unfolding afford-of most-units
 afford-is a k s = largest-same (λ n. accepts a (Use k n)) (use-accepted (a .state) k) 1000000000 (λ n. accepts-is a k n s)
 
 module _ (a : Account) (k : Kind) (s : sound a ≡ true) where
-  pub afford-nowhere : is-placed (a .state .place) ≡ false → _≡_ {A = Afforded} (record { answer = Withheld 3; account = a }) (afford-result a k)
-  unfolding afford-result verdict reasons own-reasons verdict-of step accepts
+  pub afford-nowhere : is-placed (a .state .place) ≡ false → _≡_ {A = Applied} (record { answer = Told.Refused 3; account = a }) (applied a (Afford k))
+  unfolding applied accepted-answer verdict reasons own-reasons verdict-of step accepts
   afford-nowhere p = rw (s, p) refl
 
-  pub afford-yes : (r : ℕ) → is-placed (a .state .place) ≡ true → r ≡ most-units (a .state) k → _≡_ {A = Afforded} (record { answer = UpTo r; account = a }) (afford-result a k)
-  unfolding afford-result verdict reasons own-reasons verdict-of step accepts after
+  pub afford-yes : (r : ℕ) → is-placed (a .state .place) ≡ true → r ≡ most-units (a .state) k → _≡_ {A = Applied} (record { answer = Told.UpTo r; account = a }) (applied a (Afford k))
+  unfolding applied accepted-answer verdict reasons own-reasons verdict-of step accepts after
   afford-yes r p e =
       let q : r ≡ afford-of a k = e ∙ sym (afford-is a k s) in
       rw (s, p, ← q) refl
@@ -53,3 +46,8 @@ afford-keeps a k = same (accepts a (Afford k)) a
 
 pub log-afforded : (a : Account) (k : Kind) → step a (Afford k) .log ≡ a .log
 log-afforded a k = ap (λ (x : Account). x .log) (afford-keeps a k)
+
+-- Afford's answer, beside all of the account but its log, which it leaves
+pub afford-answered : (a : Account) (k : Kind) → _≡_ {A = StateApplied} (record { answer = applied a (Afford k) .answer; state = a .state }) (applied-state (applied a (Afford k)))
+unfolding applied
+afford-answered a k = λ i. record { answer = applied a (Afford k) .answer; state = sym (afford-keeps a k) i .state }

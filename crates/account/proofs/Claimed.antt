@@ -9,9 +9,9 @@ use Rattle.tariff.specs.declared.Verdict.the-variants.{Refused}
 use Rattle.tariff.specs.Tests.{verdict-of, is-accepted}
 use Rattle.tariff.proofs.Tests.{and-false}
 use Rattle.presence.specs.Day.{is-placed}
-use Rattle.metering.specs.Reasons.{use-reasons}
-use Rattle.afford.specs.Largest.{largest}
-use Rattle.afford.proofs.Search.{largest-passes, largest-last}
+use Rattle.state.specs.Reasons.{use-reasons}
+use Rattle.account.specs.Largest.{largest}
+use Rattle.account.proofs.Search.{largest-passes, largest-last}
 use Rattle.account.specs.declared.Account.{Account}
 use Rattle.account.specs.declared.Call.the-variants.{Use}
 use Rattle.account.specs.Whole.{sound, opened}

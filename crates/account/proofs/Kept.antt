@@ -19,10 +19,10 @@ use Rattle.tariff.specs.Caps.{built-in, caps-on}
 use Rattle.tariff.specs.Charges.{home-charges-of, surcharges-of}
 use Rattle.tariff.specs.Plan.{is-prepaid, open-bundle, plan-verdict, credit-allowance, plan-allowance, amount-reasons, plan-reasons, unused-empty, prices-in-range, terms-in-range}
 use Rattle.tariff.proofs.Tests.{all-nil, all-cons, first-fails, rest-accepts, not-false}
-use Rattle.tariff.proofs.Caps.{basis-grows}
+use Rattle.tariff.proofs.CapLaws.{basis-grows}
 use Rattle.tariff.proofs.Tables.{caps-bound}
-use Rattle.tariff.proofs.Plans.{plan-ranged, opens-tells, credit-bounded, fee-bounded}
-use Rattle.tariff.proofs.Charges.{counted-bounded}
+use Rattle.tariff.proofs.PlanLaws.{plan-ranged, opens-tells, credit-bounded, fee-bounded}
+use Rattle.tariff.proofs.ChargeLaws.{counted-bounded}
 use Rattle.presence.specs.declared.Location.the-variants.{At}
 use Rattle.presence.specs.declared.Service.{Service}
 use Rattle.presence.specs.declared.ServiceState.{ServiceState}
@@ -33,35 +33,35 @@ use Rattle.presence.specs.Service.{state-step, next-state, services-after}
 use Rattle.presence.proofs.Marks.{day-use-bounded, day-mark-bounded}
 use Rattle.presence.proofs.Logs.{over-joined, blank-joined, over-empty, blank-empty}
 use Rattle.presence.proofs.Numbers.{days-joined, days-empty, marks-joined, marks-empty}
-use Rattle.metering.specs.Use.{charged-units, with-seconds, billable, roaming, billed-after, newly-surcharged, basis-after, cost, spent}
-use Rattle.metering.specs.Moves.{opened-state, enters, registered, renews, topped, turns-month, next-state-of}
-use Rattle.metering.specs.Sound.{allowance-fits, warning-fits, figures-sound}
-use Rattle.metering.specs.Reasons.{use-reasons, top-up-reasons, next-day-reasons}
-use Rattle.metering.proofs.Adding.{Worked, spent-worked, spent-adds, home-grows, extra-grows}
-use Rattle.metering.proofs.Verdicts.{Room, has-room, room-only}
-use Rattle.metering.proofs.Bounds.{charged-kinds, billable-bounded, roaming-bounded, billed-of-bounded, newly-bounded}
-use Rattle.metering.proofs.Soundness.{Figures, figures-tell, figures-pass, Balanced, charges-tell, charges-pass, plan-of-state}
+use Rattle.state.specs.Use.{charged-units, with-seconds, billable, roaming, billed-after, newly-surcharged, basis-after, cost, spent}
+use Rattle.state.specs.Moves.{opened-state, enters, registered, renews, topped, turns-month, next-state-of}
+use Rattle.state.specs.Sound.{allowance-fits, warning-fits, counters-sound}
+use Rattle.state.specs.Reasons.{use-reasons, top-up-reasons, next-day-reasons}
+use Rattle.state.proofs.Adding.{Worked, spent-worked, spent-adds, home-grows, extra-grows}
+use Rattle.state.proofs.Verdicts.{Room, has-room, room-only}
+use Rattle.state.proofs.Bounds.{charged-kinds, billable-bounded, roaming-bounded, billed-of-bounded, newly-bounded}
+use Rattle.state.proofs.Soundness.{Counters, counters-tell, counters-pass, Balanced, charges-tell, charges-pass, plan-of-state}
 use Rattle.account.specs.declared.Account.{Account}
 use Rattle.account.specs.declared.Call.{Call}
 use Rattle.account.specs.declared.Call.the-variants.{Register, Use, TopUp, NextDay, Afford}
 use Rattle.account.specs.Whole.{sound, opened, spend, register-at, top-up-by, day-after}
 use Rattle.account.specs.Answers.{no-plan}
 use Rattle.account.specs.Calls.{own-reasons, reasons, verdict, accepts, after, step}
-use Rattle.account.proofs.Parts.{Logged, log-passes, has-figures, has-charges, has-log}
+use Rattle.account.proofs.Parts.{Logged, log-passes, has-counters, has-charges, has-log}
 
 -- soundness as facts
 pub record Sound (a : Account) : Type 0 where
-  pub figures : Figures (a .state)
+  pub counters : Counters (a .state)
   pub money : Balanced (a .state)
-  pub days : Logged (a .log) (a .state .today) (a .state .logged) (a .state .lifetime)
+  pub days : Logged (a .log) (a .state .today) (a .state .logged) (a .state .meters .lifetime)
 
 pub sound-tells : (a : Account) → sound a ≡ true → Sound a
-sound-tells a s = record { figures = figures-tell (a .state) (has-figures a s); money = charges-tell (a .state) (has-charges a s); days = has-log a s }
+sound-tells a s = record { counters = counters-tell (a .state) (has-counters a s); money = charges-tell (a .state) (has-charges a s); days = has-log a s }
 
 pub sound-passes : (a : Account) → Sound a → sound a ≡ true
 unfolding sound
 sound-passes a s =
-    all-cons _ _ (figures-pass (a .state) (s .figures))
+    all-cons _ _ (counters-pass (a .state) (s .counters))
     (all-cons _ _ (charges-pass (a .state) (s .money)) (all-cons _ _ (log-passes _ _ _ _ (s .days)) all-nil))
 
 -- limits and warnings stay in their ranges
@@ -111,22 +111,22 @@ either-fits false l m e f = f
 sound-register : (a : Account) (q : Place) → Sound a → Sound (register-at a q)
 unfolding register-at registered
 sound-register a q s =
-    let f = s .figures in
+    let f = s .counters in
     let e = enters (a .state .plan .form) (a .state .place) q in
     record {
-      figures = record {
+      counters = record {
         plan-ok = f .plan-ok;
         started = f .started;
         day-ok = f .day-ok;
         lifetime-ok = f .lifetime-ok;
         charged-ok = f .charged-ok;
         paid-ok = f .paid-ok;
-        roamed-ok = either-bounded e (a .state .roamed) (a .state .lifetime .kb) (f .roamed-ok);
+        roamed-ok = either-bounded e (a .state .quota .roamed) (a .state .meters .lifetime .kb) (f .roamed-ok);
         monthly-ok = f .monthly-ok;
         billed-ok = f .billed-ok;
         surcharged-ok = f .surcharged-ok;
         basis-ok = f .basis-ok;
-        allowance-ok = either-fits e _ (a .state .allowance) (credit-fits (a .state .credit) (caps-on built-in (a .state .day) .kb) (omega (arith, s .money .balance, f .paid-ok))) (f .allowance-ok);
+        allowance-ok = either-fits e _ (a .state .quota .allowance) (credit-fits (a .state .money .credit) (caps-on built-in (a .state .day) .kb) (omega (arith, s .money .balance, f .paid-ok))) (f .allowance-ok);
         logged-ok = f .logged-ok;
         internet-ok = f .internet-ok;
         calls-ok = f .calls-ok;
@@ -136,25 +136,25 @@ sound-register a q s =
       days = record { days-ok = omega (arith, s .days .days-ok, day-mark-bounded (At q) (a .state .today)); rest-ok = s .days .rest-ok; marks-ok = s .days .marks-ok };
     }
 
-sound-top-up : (a : Account) (n : ℕ) → a .state .paid + n ≤ 1000000000 → Sound a → Sound (top-up-by a n)
+sound-top-up : (a : Account) (n : ℕ) → a .state .money .paid + n ≤ 1000000000 → Sound a → Sound (top-up-by a n)
 unfolding top-up-by topped
 sound-top-up a n h s =
-    let f = s .figures in
+    let f = s .counters in
     let e = renews (a .state .plan .form) (a .state .place) in
     record {
-      figures = record {
+      counters = record {
         plan-ok = f .plan-ok;
         started = f .started;
         day-ok = f .day-ok;
         lifetime-ok = f .lifetime-ok;
         charged-ok = f .charged-ok;
         paid-ok = h;
-        roamed-ok = either-bounded e (a .state .roamed) (a .state .lifetime .kb) (f .roamed-ok);
+        roamed-ok = either-bounded e (a .state .quota .roamed) (a .state .meters .lifetime .kb) (f .roamed-ok);
         monthly-ok = f .monthly-ok;
         billed-ok = f .billed-ok;
         surcharged-ok = f .surcharged-ok;
         basis-ok = f .basis-ok;
-        allowance-ok = either-fits e _ (a .state .allowance) (credit-fits (a .state .credit + n) (caps-on built-in (a .state .day) .kb) (omega (arith, s .money .balance))) (f .allowance-ok);
+        allowance-ok = either-fits e _ (a .state .quota .allowance) (credit-fits (a .state .money .credit + n) (caps-on built-in (a .state .day) .kb) (omega (arith, s .money .balance))) (f .allowance-ok);
         logged-ok = f .logged-ok;
         internet-ok = f .internet-ok;
         calls-ok = f .calls-ok;
@@ -167,23 +167,23 @@ sound-top-up a n h s =
 sound-next : (a : Account) → a .state .day < 3833 → Sound a → Sound (day-after a)
 unfolding day-after next-state-of services-after
 sound-next a h s =
-    let f = s .figures in
+    let f = s .counters in
     let e = turns-month (a .state .plan) (a .state .day + 1) in
     let k : a .state .logged ≤ 123 = omega (arith, f .logged-ok) in
     record {
-      figures = record {
+      counters = record {
         plan-ok = f .plan-ok;
         started = omega (arith, f .started);
         day-ok = omega arith;
         lifetime-ok = f .lifetime-ok;
         charged-ok = f .charged-ok;
         paid-ok = f .paid-ok;
-        roamed-ok = either-bounded e (a .state .roamed) (a .state .lifetime .kb) (f .roamed-ok);
-        monthly-ok = either-bounded e (a .state .monthly) (a .state .lifetime .kb) (f .monthly-ok);
+        roamed-ok = either-bounded e (a .state .quota .roamed) (a .state .meters .lifetime .kb) (f .roamed-ok);
+        monthly-ok = either-bounded e (a .state .quota .monthly) (a .state .meters .lifetime .kb) (f .monthly-ok);
         billed-ok = f .billed-ok;
         surcharged-ok = f .surcharged-ok;
         basis-ok = f .basis-ok;
-        allowance-ok = either-fits e _ (a .state .allowance) (plan-fits (a .state .plan) (caps-on built-in (a .state .day + 1) .kb) (plan-of-state (a .state) f .money)) (f .allowance-ok);
+        allowance-ok = either-fits e _ (a .state .quota .allowance) (plan-fits (a .state .plan) (caps-on built-in (a .state .day + 1) .kb) (plan-of-state (a .state) f .money)) (f .allowance-ok);
         logged-ok = omega (arith, f .logged-ok, f .started);
         internet-ok = next-fits _ _ _ (a .state .services .internet);
         calls-ok = next-fits _ _ _ (a .state .services .calls);
@@ -198,16 +198,16 @@ sound-next a h s =
     }
 
 -- a spend of u units charged as c, which differ from u in outgoing seconds at most
-sound-spend : (a : Account) (u c : Units) → AtMost (a .state .lifetime ⊕ u) lifetime-most → a .state .chargedseconds + c .outgoing ≤ 1000000000000
-    → AtMost c (with-seconds u (c .outgoing)) → cost (a .state) c ≤ a .state .credit → Sound a → Sound (spend a u c)
+sound-spend : (a : Account) (u c : Units) → AtMost (a .state .meters .lifetime ⊕ u) lifetime-most → a .state .meters .chargedseconds + c .outgoing ≤ 1000000000000
+    → AtMost c (with-seconds u (c .outgoing)) → cost (a .state) c ≤ a .state .money .credit → Sound a → Sound (spend a u c)
 unfolding spend cost spent
 sound-spend a u c l t q h s =
-    let f = s .figures in
+    let f = s .counters in
     let b : AtMost (billable (a .state .place) c) c = billable-bounded (a .state .place) c in
     let r : AtMost (roaming (a .state .place) c) c = roaming-bounded (a .state .place) c in
     let w = s .money .worked in
     record {
-      figures = record {
+      counters = record {
         plan-ok = f .plan-ok;
         started = f .started;
         day-ok = f .day-ok;
@@ -216,9 +216,9 @@ sound-spend a u c l t q h s =
         paid-ok = f .paid-ok;
         roamed-ok = omega (arith, r, q, f .roamed-ok);
         monthly-ok = omega (arith, b, q, f .monthly-ok, counted-bounded (a .state .plan .form) (billable (a .state .place) c .kb));
-        billed-ok = unfold billed-after in omega (arith, f .billed-ok, b, q, billed-of-bounded (a .state .plan) (a .state .monthly) (billable (a .state .place) c));
+        billed-ok = unfold billed-after in omega (arith, f .billed-ok, b, q, billed-of-bounded (a .state .plan) (a .state .quota .monthly) (billable (a .state .place) c));
         surcharged-ok = omega (arith, f .surcharged-ok, q, newly-bounded (a .state) c);
-        basis-ok = unfold basis-after in basis-grows 20000 (a .state .basis) (caps-on built-in (a .state .day)) (a .state .surcharged) (newly-surcharged (a .state) c) (f .basis-ok) (caps-bound (a .state .day) .most);
+        basis-ok = unfold basis-after in basis-grows 20000 (a .state .meters .basis) (caps-on built-in (a .state .day)) (a .state .meters .surcharged) (newly-surcharged (a .state) c) (f .basis-ok) (caps-bound (a .state .day) .most);
         allowance-ok = f .allowance-ok;
         logged-ok = f .logged-ok;
         internet-ok = f .internet-ok;
@@ -229,17 +229,17 @@ sound-spend a u c l t q h s =
       days = record { days-ok = omega (arith, s .days .days-ok, day-use-bounded (a .state .place) u (a .state .today)); rest-ok = s .days .rest-ok; marks-ok = s .days .marks-ok };
     }
 
-sound-use : (a : Account) (k : Kind) (n : ℕ) → Room (a .state) k n → cost (a .state) (charged-units (a .state .place) k n) ≤ a .state .credit
+sound-use : (a : Account) (k : Kind) (n : ℕ) → Room (a .state) k n → cost (a .state) (charged-units (a .state .place) k n) ≤ a .state .money .credit
     → Sound a → Sound (spend a (only k n) (charged-units (a .state .place) k n))
 sound-use a k n r h s =
-    sound-spend a (only k n) (charged-units (a .state .place) k n) (room-only (a .state .lifetime) k n (s .figures .lifetime-ok) (r .units)) (r .seconds) (charged-kinds (a .state .place) k n) h s
+    sound-spend a (only k n) (charged-units (a .state .place) k n) (room-only (a .state .meters .lifetime) k n (s .counters .lifetime-ok) (r .units)) (r .seconds) (charged-kinds (a .state .place) k n) h s
 
 -- what acceptance tells of a use, a top-up and a day change
 within-limits : (a : Account) (k : Kind) (n : ℕ) → accepts a (Use k n) ≡ true → Room (a .state) k n
 unfolding accepts verdict reasons own-reasons use-reasons
 within-limits a k n e = has-room _ _ _ (first-fails _ _ (rest-accepts _ _ (rest-accepts _ _ (rest-accepts _ _ e))))
 
-pub within-credit : (a : Account) (k : Kind) (n : ℕ) → accepts a (Use k n) ≡ true → cost (a .state) (charged-units (a .state .place) k n) ≤ a .state .credit
+pub within-credit : (a : Account) (k : Kind) (n : ℕ) → accepts a (Use k n) ≡ true → cost (a .state) (charged-units (a .state .place) k n) ≤ a .state .money .credit
 unfolding accepts verdict reasons own-reasons use-reasons
 within-credit a k n e = ltb-false _ _ (first-fails _ _ (rest-accepts _ _ (rest-accepts _ _ (rest-accepts _ _ (rest-accepts _ _ e)))))
 
@@ -276,7 +276,7 @@ unfolding opened opened-state
 sound-opened p e =
     let o = opens-tells p e in
     record {
-      figures = record {
+      counters = record {
         plan-ok = e;
         started = omega arith;
         day-ok = o .late;
@@ -309,5 +309,5 @@ equal-step a b c e = ap (λ (x : Account). step x c) e
 
 -- the account that a refused Open hands back is not sound
 pub no-plan-unsound : sound (opened no-plan) ≡ false
-unfolding sound opened opened-state figures-sound all plan-verdict plan-reasons amount-reasons verdict-of unused-empty prices-in-range terms-in-range
+unfolding sound opened opened-state counters-sound all plan-verdict plan-reasons amount-reasons verdict-of unused-empty prices-in-range terms-in-range
 no-plan-unsound = refl

@@ -1,5 +1,6 @@
 pub mod Parts
 pub mod Returns
 pub mod Kept
+pub mod Search
 pub mod Affords
 pub mod Claimed

@@ -14,9 +14,9 @@ use Rattle.presence.specs.declared.Day.{Day}
 use Rattle.presence.specs.Day.{day-units, joined}
 use Rattle.presence.specs.Log.{days-of, units-over, all-blank, marks-proper, log-within}
 use Rattle.presence.proofs.Logs.{over-joined}
-use Rattle.metering.specs.Sound.{figures-sound, charges-sound}
-use Rattle.metering.specs.Needs.{Steady, Turns}
-use Rattle.metering.proofs.Soundness.{figures-tell, charges-tell}
+use Rattle.state.specs.Sound.{counters-sound, charges-sound}
+use Rattle.state.specs.Needs.{Steady, Turns}
+use Rattle.state.proofs.Soundness.{counters-tell, charges-tell}
 use Rattle.account.specs.declared.Account.{Account}
 use Rattle.account.specs.Whole.{sound}
 
@@ -39,33 +39,33 @@ unfolding log-within
 log-passes xs today n lifetime s = all-cons _ _ (fits-yes _ _ (s .days-ok)) (all-cons _ _ (s .rest-ok) (all-cons _ _ (s .marks-ok) all-nil))
 
 module _ (a : Account) (s : sound a ≡ true) where
-  pub has-figures : figures-sound (a .state) ≡ true
+  pub has-counters : counters-sound (a .state) ≡ true
   unfolding sound
-  has-figures = all-head _ _ s
+  has-counters = all-head _ _ s
 
   pub has-charges : charges-sound (a .state) ≡ true
   unfolding sound
   has-charges = all-head _ _ (all-tail _ _ s)
 
-  pub has-log : Logged (a .log) (a .state .today) (a .state .logged) (a .state .lifetime)
+  pub has-log : Logged (a .log) (a .state .today) (a .state .logged) (a .state .meters .lifetime)
   unfolding sound
   has-log = log-tells _ _ _ _ (all-head _ _ (all-tail _ _ (all-tail _ _ s)))
 
   pub steady : Steady (a .state)
-  steady = record { figures = has-figures; charges = has-charges; today = omega (arith, has-log .days-ok) }
+  steady = record { counters = has-counters; charges = has-charges; today = omega (arith, has-log .days-ok) }
 
-  pub credit-most : a .state .credit ≤ a .state .paid
+  pub credit-most : a .state .money .credit ≤ a .state .money .paid
   credit-most = omega (arith, charges-tell (a .state) has-charges .balance)
 
-  pub paid-most : a .state .paid ≤ 1000000000
-  paid-most = figures-tell (a .state) has-figures .paid-ok
+  pub paid-most : a .state .money .paid ≤ 1000000000
+  paid-most = counters-tell (a .state) has-counters .paid-ok
 
   pub turns : a .state .day < 3833 → Turns (a .state) (joined (a .state .today) (days-of (a .log)))
   turns h =
-      let f = figures-tell (a .state) has-figures in
+      let f = counters-tell (a .state) has-counters in
       let o = over-joined (a .state .logged) (a .state .today) (days-of (a .log)) (omega (arith, f .logged-ok)) in
       record {
-        figures = has-figures;
+        counters = has-counters;
         before-end = h;
         within = rw (add-one (a .state .logged)) (omega (arith, o, has-log .days-ok, f .lifetime-ok));
       }

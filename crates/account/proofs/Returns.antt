@@ -1,80 +1,74 @@
 -- What the calls return, reason by reason. Assumes nothing.
 use Prim.Native.Nat.{ℕ, _+_, _≤_, _<_}
-use mathlib.Core.Path.{_≡_, refl, sym}
+use mathlib.Core.Path.{_≡_, refl}
 use mathlib.Core.Bool.{Bool, true, false, cond}
 use mathlib.Core.List.{List}
 use lib.ListN.{length}
 use borrow.Author.Tests.{lt-ltb, le-ltb, le-leb, lt-leb}
 use Rattle.tariff.specs.declared.Kind.{Kind}
 use Rattle.tariff.specs.declared.Place.{Place}
-use Rattle.tariff.specs.declared.Verdict.the-variants.{Accepted, Refused}
 use Rattle.tariff.specs.Tests.{between, verdict-of, is-accepted}
 use Rattle.tariff.specs.Units.{only}
 use Rattle.presence.specs.Day.{joined}
 use Rattle.presence.specs.Log.{days-of, logged-with}
 use Rattle.presence.proofs.Numbers.{logged-size}
-use Rattle.metering.specs.declared.State.{State}
-use Rattle.metering.specs.declared.UseAnswer.the-variants.{Declined}
-use Rattle.metering.specs.Use.{charged-units, spent}
-use Rattle.metering.specs.Moves.{registered, topped, next-state-of}
-use Rattle.metering.specs.Reasons.{use-reasons, top-up-reasons, next-day-reasons, use-state}
+use Rattle.state.specs.declared.State.{State}
+use Rattle.state.specs.declared.Answer.the-variants.{Done, Refused}
+use Rattle.state.specs.Use.{charged-units, spent}
+use Rattle.state.specs.Moves.{registered, topped, next-state-of}
+use Rattle.state.specs.Reasons.{use-reasons, top-up-reasons, next-day-reasons, use-state}
 use Rattle.account.specs.declared.Account.{Account}
-use Rattle.account.specs.declared.Used.{Used}
-use Rattle.account.specs.declared.Answered.{Answered}
+use Rattle.account.specs.declared.Applied.{Applied}
 use Rattle.account.specs.declared.Call.{Call}
 use Rattle.account.specs.declared.Call.the-variants.{Register, Use, TopUp, NextDay, Afford}
 use Rattle.account.specs.Whole.{sound, spend, register-at, top-up-by, day-after}
 use Rattle.account.specs.Calls.{own-reasons, reasons, verdict, accepts, after, step}
-use Rattle.account.specs.Answers.{use-result, answer-of}
+use Rattle.account.specs.Answers.{accepted-answer, applied}
 
 either : (b : Bool) (a : Account) (x : State) → _≡_ {A = Account} (record { state = cond b x (a .state); log = a .log }) (cond b (record { state = x; log = a .log }) a)
 either true a x = refl
 either false a x = refl
 
-pub use-unsound : (a : Account) (k : Kind) (n : ℕ) → sound a ≡ false → _≡_ {A = Used} (record { answer = Declined 0; account = a }) (use-result a k n)
-unfolding use-result verdict reasons verdict-of step accepts
-use-unsound a k n s = rw s refl
-
 pub use-sound : (a : Account) (k : Kind) (n : ℕ) → sound a ≡ true
-    → _≡_ {A = Used} (record { answer = use-state (a .state) k n .answer; account = record { state = use-state (a .state) k n .state; log = a .log } }) (use-result a k n)
-unfolding use-result verdict reasons own-reasons verdict-of step accepts after use-state spend
+    → _≡_ {A = Applied} (record { answer = use-state (a .state) k n .answer; account = record { state = use-state (a .state) k n .state; log = a .log } }) (applied a (Use k n))
+unfolding applied accepted-answer verdict reasons own-reasons verdict-of step accepts after use-state spend
 use-sound a k n s =
     rw s (λ i. record {
       answer = use-state (a .state) k n .answer;
       account = either (is-accepted (verdict-of (use-reasons (a .state) k n))) a (spent (a .state) (only k n) (charged-units (a .state .place) k n)) i;
     })
 
-pub unsound : (a : Account) (c : Call) → sound a ≡ false → _≡_ {A = Answered} (record { answer = Refused 0; account = a }) (answer-of a c)
-unfolding answer-of verdict reasons verdict-of step accepts
+pub unsound : (a : Account) (c : Call) → sound a ≡ false → _≡_ {A = Applied} (record { answer = Refused 0; account = a }) (applied a c)
+unfolding applied verdict reasons verdict-of step accepts
 unsound a c s = rw s refl
 
 module _ (a : Account) (s : sound a ≡ true) where
-  pub registered-yes : (p : Place) → _≡_ {A = Answered} (record { answer = Accepted; account = record { state = registered (a .state) p; log = a .log } }) (answer-of a (Register p))
-  unfolding answer-of verdict reasons own-reasons verdict-of step accepts after register-at
+  pub registered-yes : (p : Place) → _≡_ {A = Applied} (record { answer = Done; account = record { state = registered (a .state) p; log = a .log } }) (applied a (Register p))
+  unfolding applied accepted-answer verdict reasons own-reasons verdict-of step accepts after register-at
   registered-yes p = rw s refl
 
-  pub topped-7 : (n : ℕ) → between 1 n 10000000 ≡ false → _≡_ {A = Answered} (record { answer = Refused 7; account = a }) (answer-of a (TopUp n))
-  unfolding answer-of verdict reasons own-reasons verdict-of step accepts top-up-reasons
+  pub topped-7 : (n : ℕ) → between 1 n 10000000 ≡ false → _≡_ {A = Applied} (record { answer = Refused 7; account = a }) (applied a (TopUp n))
+  unfolding applied accepted-answer verdict reasons own-reasons verdict-of step accepts top-up-reasons
   topped-7 n e = rw (s, e) refl
 
-  pub topped-8 : (n : ℕ) → between 1 n 10000000 ≡ true → 1000000000 < a .state .paid + n → _≡_ {A = Answered} (record { answer = Refused 8; account = a }) (answer-of a (TopUp n))
-  unfolding answer-of verdict reasons own-reasons verdict-of step accepts top-up-reasons
+  pub topped-8 : (n : ℕ) → between 1 n 10000000 ≡ true → 1000000000 < a .state .money .paid + n → _≡_ {A = Applied} (record { answer = Refused 8; account = a }) (applied a (TopUp n))
+  unfolding applied accepted-answer verdict reasons own-reasons verdict-of step accepts top-up-reasons
   topped-8 n e l = rw (s, e, lt-ltb _ _ l) refl
 
-  pub topped-yes : (n : ℕ) → between 1 n 10000000 ≡ true → a .state .paid + n ≤ 1000000000
-      → _≡_ {A = Answered} (record { answer = Accepted; account = record { state = topped (a .state) n; log = a .log } }) (answer-of a (TopUp n))
-  unfolding answer-of verdict reasons own-reasons verdict-of step accepts top-up-reasons after top-up-by
+  pub topped-yes : (n : ℕ) → between 1 n 10000000 ≡ true → a .state .money .paid + n ≤ 1000000000
+      → _≡_ {A = Applied} (record { answer = Done; account = record { state = topped (a .state) n; log = a .log } }) (applied a (TopUp n))
+  unfolding applied accepted-answer verdict reasons own-reasons verdict-of step accepts top-up-reasons after top-up-by
   topped-yes n e l = rw (s, e, le-ltb _ _ l) refl
 
-  pub next-9 : 3833 ≤ a .state .day → _≡_ {A = Answered} (record { answer = Refused 9; account = a }) (answer-of a NextDay)
-  unfolding answer-of verdict reasons own-reasons verdict-of step accepts next-day-reasons
+  pub next-9 : 3833 ≤ a .state .day → _≡_ {A = Applied} (record { answer = Refused 9; account = a }) (applied a NextDay)
+  unfolding applied accepted-answer verdict reasons own-reasons verdict-of step accepts next-day-reasons
   next-9 h = rw (s, le-leb _ _ h) refl
 
   pub next-yes : a .state .day < 3833
-      → _≡_ {A = Answered}
-      (record { answer = Accepted; account = record { state = next-state-of (a .state) (joined (a .state .today) (days-of (a .log))); log = logged-with (a .state .today) (a .log) } })
-      (answer-of a NextDay)
-  unfolding answer-of verdict reasons own-reasons verdict-of step accepts next-day-reasons after day-after
+      → _≡_ {A = Applied}
+      (record { answer = Done; account = record { state = next-state-of (a .state) (joined (a .state .today) (days-of (a .log))); log = logged-with (a .state .today) (a .log) } })
+      (applied a NextDay)
+  unfolding applied accepted-answer verdict reasons own-reasons verdict-of step accepts next-day-reasons after day-after
   next-yes h = rw (s, lt-leb _ _ h) refl
 
 -- only a day change touches the log
@@ -95,15 +89,10 @@ unfolding step after top-up-by
 top-up-keeps a n = kept (accepts a (TopUp n)) a (top-up-by a n) refl
 
 -- all but the log, and the log, make the account again
-pub joined-answer : (a : Account) (c : Call) (l : List ℕ) → l ≡ step a c .log
-    → _≡_ {A = Answered} (record { answer = answer-of a c .answer; account = record { state = answer-of a c .account .state; log = l } }) (answer-of a c)
-unfolding answer-of
-joined-answer a c l e = λ i. record { answer = answer-of a c .answer; account = record { state = answer-of a c .account .state; log = e i } }
-
-pub joined-use : (a : Account) (k : Kind) (n : ℕ)
-    → _≡_ {A = Used} (record { answer = use-result a k n .answer; account = record { state = use-result a k n .account .state; log = a .log } }) (use-result a k n)
-unfolding use-result
-joined-use a k n = λ i. record { answer = use-result a k n .answer; account = record { state = use-result a k n .account .state; log = sym (use-keeps a k n) i } }
+pub joined-applied : (a : Account) (c : Call) (l : List ℕ) → l ≡ step a c .log
+    → _≡_ {A = Applied} (record { answer = applied a c .answer; account = record { state = applied a c .account .state; log = l } }) (applied a c)
+unfolding applied
+joined-applied a c l e = λ i. record { answer = applied a c .answer; account = record { state = step a c .state; log = e i } }
 
 -- the log keeps its size
 size-either : (b : Bool) (a x : Account) → length (a .log) ≡ 1599 → length (x .log) ≡ 1599 → length (cond b x a .log) ≡ 1599

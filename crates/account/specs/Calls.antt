@@ -1,15 +1,12 @@
 -- 01, "What each operation declines", for every call on an account, and what a call makes of it. Assumes nothing.
-use Prim.Native.Nat.{ℕ}
 use mathlib.Core.Bool.{Bool, not, cond}
 use mathlib.Core.List.{List, [], _∷_}
-use Rattle.tariff.specs.declared.Kind.{Kind}
-use Rattle.tariff.specs.declared.Place.{Place}
 use Rattle.tariff.specs.declared.Verdict.{Verdict}
 use Rattle.tariff.specs.Tests.{Reason, because, verdict-of, is-accepted}
 use Rattle.tariff.specs.Units.{only}
 use Rattle.presence.specs.Day.{is-placed}
-use Rattle.metering.specs.Use.{charged-units}
-use Rattle.metering.specs.Reasons.{use-reasons, top-up-reasons, next-day-reasons}
+use Rattle.state.specs.Use.{charged-units}
+use Rattle.state.specs.Reasons.{use-reasons, top-up-reasons, next-day-reasons}
 use Rattle.account.specs.declared.Account.{Account}
 use Rattle.account.specs.declared.Call.{Call}
 use Rattle.account.specs.declared.Call.the-variants.{Register, Use, TopUp, NextDay, Afford}

@@ -1,5 +1,5 @@
--- What holds of every account and call, beside the answers themselves: 01, "Account and its calls" and "What each operation declines".
--- Assumes nothing.
+-- What holds of every account and call, beside the answers themselves: 01, "Account and its calls" and "What each
+-- operation declines". Assumes nothing.
 use Prim.Native.Nat.{ℕ}
 use mathlib.Core.Path.{_≡_}
 use mathlib.Core.Bool.{true, false}
@@ -25,7 +25,8 @@ AffordChangesNothing = (a : Account) (k : Kind) → step a (Afford k) ≡ a
 abbrev pub RefusedChangesNothing : Type 0
 RefusedChangesNothing = (a : Account) (c : Call) → accepts a c ≡ false → step a c ≡ a
 
--- Open hands out a sound account where it accepts, and one that is not sound where it refuses, so that every call on that one is refused with 0
+-- Open hands out a sound account where it accepts, and one that is not sound where it refuses, so that every call on
+-- that one is refused with 0
 pub record OpensSound (p : Plan) : Type 0 where
   pub taken : open-answer p .answer ≡ Accepted → sound (open-answer p .account) ≡ true
   pub refused : (n : ℕ) → open-answer p .answer ≡ Refused n → sound (open-answer p .account) ≡ false

@@ -1,5 +1,6 @@
 // Claims about every account and call, stated in specs/Claims.antt.
-ghost use Rattle.account.specs.Claims.{AffordIsLargest, AffordChangesNothing, RefusedChangesNothing, OpenTellsSound};
+ghost use Rattle.account.specs.Claims.{AffordIsLargest, AffordChangesNothing, RefusedChangesNothing};
+ghost use Rattle.account.specs.Claims.{OpenTellsSound};
 
 // What Afford answers is accepted, and nothing larger is.
 pub fn afford_is_largest()

@@ -1,24 +1,25 @@
 // The account, a value that each call takes and hands back with its answer: document 01, "Account and its calls".
+pub mod afford;
 pub mod claims;
 
-use metering::State;
-use metering::StateUsed;
-use metering::UseAnswer;
+use state::Answer;
+use state::State;
+use state::StateApplied;
 use tariff::Form;
 use tariff::Kind;
 use tariff::Place;
 use tariff::Plan;
 use tariff::Verdict;
 ghost use mathlib.Core.Path.{_≡_};
-ghost use mathlib.Core.Bool.{Bool, true, false};
+ghost use mathlib.Core.Bool.{false};
 ghost use Rattle.account.specs.Whole.{sound, opened};
-ghost use Rattle.metering.specs.Needs.{Payable};
-ghost use Prim.Native.Nat.{ℕ};
+ghost use Rattle.state.specs.Needs.{Payable};
 ghost use lib.ListN.{length};
 ghost use Rattle.account.specs.Calls.{step};
-ghost use Rattle.account.specs.Answers.{open-answer, use-result, answer-of, afford-result, account-of, used-state, answered-state};
+ghost use Rattle.account.specs.Answers.{open-answer, applied, account-of, applied-state};
 
-// All but the log, and the log of the last 123 days, newest first, 13 numbers to a day; past the logged days it is empty.
+// All but the log, and the log of the last 123 days, newest first, 13 numbers to a day; past the logged days it is
+// empty.
 pub struct Account {
     pub state: State,
     pub log: [u64; 1599],
@@ -33,170 +34,194 @@ pub enum Call {
     Afford(Kind),
 }
 
-// What a use answers, with the account.
-pub struct Used {
-    pub answer: UseAnswer,
-    pub account: Account,
-}
-
-// The largest use that is accepted, or the number that declines to say.
-pub enum AffordAnswer {
-    UpTo(u64),
-    Withheld(u64),
-}
-
-pub struct Afforded {
-    pub answer: AffordAnswer,
-    pub account: Account,
-}
-
-// What opening, a registration, a top-up and a day change answer, with the account.
-pub struct Answered {
+// What Open answers, with the account.
+pub struct Opened {
     pub answer: Verdict,
     pub account: Account,
 }
 
-// What a registration, a top-up and a day change answer, with all of the account but its log.
-pub struct StateAnswered {
-    pub answer: Verdict,
-    pub state: State,
+// What a call answers, with the account.
+pub struct Applied {
+    pub answer: Answer,
+    pub account: Account,
 }
 
 fn opened_account(p: Plan) -> Account
     requires { ⌜ Payable p ⌝ }
     ensures { λ r. ⌜ r ≡ opened p ⌝ }
 {
-    let state = metering::opened_with(p);
-    let log = presence::log_empty();
+    let state = state::moves::opened_with(p);
+    let log = presence::log::log_empty();
     Account {
         state: state,
         log: log,
     }
 }
 
-// Each call on all of an account but its log, with the log lent: the methods and the replay of lists share them, and the log stays where it is.
+// Each call on all of an account but its log, with the log lent: the methods and the replay of lists share them, and
+// the log stays where it is.
 
 // Is the account sound? Any values will do.
 fn parts_fit(state: State, log: &[u64; 1599]) -> bool
     ensures { λ r. ⌜ r ≡ sound (account-of state (now (log .entry))) ⌝ }
 {
-    if !metering::figures_fit(state) {
+    if !state::sound::counters_fit(state) {
         return false;
     }
-    if !metering::charges_fit(state) {
+    if !state::sound::charges_fit(state) {
         return false;
     }
-    presence::log_fits(log, state.today, state.logged, state.lifetime)
+    presence::log::log_fits(log, state.today, state.logged, state.meters.lifetime)
 }
 
 // Refusal 0.
-pub fn register_with(state: State, log: &[u64; 1599], p: Place) -> StateAnswered
-    ensures { λ r. ⌜ r ≡ answered-state (answer-of (account-of state (now (log .entry))) (Call.Register p)) ⌝ }
+pub fn register_with(state: State, log: &[u64; 1599], p: Place) -> StateApplied
+    ensures { λ r. ⌜ r ≡ applied-state (applied (account-of state (now (log .entry))) (Call.Register p)) ⌝ }
 {
     if !parts_fit(state, log) {
-        return StateAnswered {
-            answer: Verdict::Refused(0),
+        return StateApplied {
+            answer: Answer::Refused(0),
             state: state,
         };
     }
-    let next = metering::registered_at(state, p);
-    StateAnswered {
-        answer: Verdict::Accepted,
+    let next = state::moves::registered_at(state, p);
+    StateApplied {
+        answer: Answer::Done,
         state: next,
     }
 }
 
 // Refusals 0, 3, 4, 5, 6.
-pub fn use_with(state: State, log: &[u64; 1599], k: Kind, n: u64) -> StateUsed
-    ensures { λ r. ⌜ r ≡ used-state (use-result (account-of state (now (log .entry))) k n) ⌝ }
+pub fn use_with(state: State, log: &[u64; 1599], k: Kind, n: u64) -> StateApplied
+    ensures { λ r. ⌜ r ≡ applied-state (applied (account-of state (now (log .entry))) (Call.Use k n)) ⌝ }
 {
     if !parts_fit(state, log) {
-        return StateUsed {
-            answer: UseAnswer::Declined(0),
+        return StateApplied {
+            answer: Answer::Refused(0),
             state: state,
         };
     }
-    metering::use_of(state, k, n)
+    state::charging::use_of(state, k, n)
 }
 
 // Refusals 0, 7, 8.
-pub fn top_up_with(state: State, log: &[u64; 1599], n: u64) -> StateAnswered
-    ensures { λ r. ⌜ r ≡ answered-state (answer-of (account-of state (now (log .entry))) (Call.TopUp n)) ⌝ }
+pub fn top_up_with(state: State, log: &[u64; 1599], n: u64) -> StateApplied
+    ensures { λ r. ⌜ r ≡ applied-state (applied (account-of state (now (log .entry))) (Call.TopUp n)) ⌝ }
 {
     if !parts_fit(state, log) {
-        return StateAnswered {
-            answer: Verdict::Refused(0),
+        return StateApplied {
+            answer: Answer::Refused(0),
             state: state,
         };
     }
-    if !metering::within(1, n, 10000000) {
-        return StateAnswered {
-            answer: Verdict::Refused(7),
+    if !state::charging::within(1, n, 10000000) {
+        return StateApplied {
+            answer: Answer::Refused(7),
             state: state,
         };
     }
-    if state.paid + n > 1000000000 {
-        return StateAnswered {
-            answer: Verdict::Refused(8),
+    if state.money.paid + n > 1000000000 {
+        return StateApplied {
+            answer: Answer::Refused(8),
             state: state,
         };
     }
-    let next = metering::topped_by(state, n);
-    StateAnswered {
-        answer: Verdict::Accepted,
+    let next = state::moves::topped_by(state, n);
+    StateApplied {
+        answer: Answer::Done,
         state: next,
     }
 }
 
 // Refusals 0, 9.
-pub fn next_day_with(state: State, log: &mut [u64; 1599]) -> StateAnswered
+pub fn next_day_with(state: State, log: &mut [u64; 1599]) -> StateApplied
     requires { ⌜ length (now log) ≡ 1599 ⌝ }
-    ensures answer { λ r. ⌜ r ≡ answered-state (answer-of (account-of state (now (log .entry))) Call.NextDay) ⌝ }
+    ensures answer { λ r. ⌜ r ≡ applied-state (applied (account-of state (now (log .entry))) Call.NextDay) ⌝ }
     ensures shifted { λ _. ⌜ now (log .exit) ≡ step (account-of state (now (log .entry))) Call.NextDay .log ⌝ }
 {
     if !parts_fit(state, log) {
-        return StateAnswered {
-            answer: Verdict::Refused(0),
+        return StateApplied {
+            answer: Answer::Refused(0),
             state: state,
         };
     }
     if state.day >= 3833 {
-        return StateAnswered {
-            answer: Verdict::Refused(9),
+        return StateApplied {
+            answer: Answer::Refused(9),
             state: state,
         };
     }
-    presence::push(log, state.today);
-    let next = metering::next_from(state, log);
-    StateAnswered {
-        answer: Verdict::Accepted,
+    presence::log::push(log, state.today);
+    let next = state::moves::next_from(state, log);
+    StateApplied {
+        answer: Answer::Done,
         state: next,
     }
 }
 
 // Refusals 0, 3.
-pub fn afford_with(state: State, log: &[u64; 1599], k: Kind) -> AffordAnswer
-    ensures { λ r. ⌜ r ≡ afford-result (account-of state (now (log .entry))) k .answer ⌝ }
+pub fn afford_with(state: State, log: &[u64; 1599], k: Kind) -> Answer
+    ensures { λ r. ⌜ r ≡ applied (account-of state (now (log .entry))) (Call.Afford k) .answer ⌝ }
 {
     if !parts_fit(state, log) {
-        return AffordAnswer::Withheld(0);
+        return Answer::Refused(0);
     }
     let place = state.place;
-    if !presence::placed(place) {
-        return AffordAnswer::Withheld(3);
+    if !presence::days::placed(place) {
+        return Answer::Refused(3);
     }
     let n = afford::most_of(state, k);
-    AffordAnswer::UpTo(n)
+    Answer::UpTo(n)
+}
+
+// Afford's answer, which changes nothing.
+fn afford_applied(state: State, x: Answer) -> StateApplied
+    ensures { λ r. ⌜ r ≡ record { answer = x; state = state } ⌝ }
+{
+    StateApplied {
+        answer: x,
+        state: state,
+    }
+}
+
+// One call of any kind.
+pub fn call_with(state: State, log: &mut [u64; 1599], c: Call) -> StateApplied
+    requires { ⌜ length (now log) ≡ 1599 ⌝ }
+    ensures answer { λ r. ⌜ r ≡ applied-state (applied (account-of state (now (log .entry))) c) ⌝ }
+    ensures shifted { λ _. ⌜ now (log .exit) ≡ step (account-of state (now (log .entry))) c .log ⌝ }
+{
+    match c {
+        Call::Register(p) => register_with(state, log, p),
+        Call::Use(k, n) => use_with(state, log, k, n),
+        Call::TopUp(n) => top_up_with(state, log, n),
+        Call::NextDay => next_day_with(state, log),
+        Call::Afford(k) => afford_applied(state, afford_with(state, log, k)),
+    }
+}
+
+// One call of any kind on a whole account.
+pub fn apply(mut a: Account, c: Call) -> Applied
+    ensures { λ r. ⌜ r ≡ applied a c ⌝ }
+{
+    let state = a.state;
+    let done = call_with(state, &mut a.log, c);
+    let answer = done.answer;
+    let next = done.state;
+    a.state = next;
+    Applied {
+        answer: answer,
+        account: a,
+    }
 }
 
 impl Account {
     // A new account under the plan: refusals 1, 17, 18 and 2. A refused plan leaves an account that is not sound.
-    pub fn open(p: Plan) -> Answered
+    pub fn open(p: Plan) -> Opened
         ensures { λ r. ⌜ r ≡ open-answer p ⌝ }
     {
-        let verdict = tariff::check_plan(p);
+        let verdict = tariff::plans::check_plan(p);
         match verdict {
-            Verdict::Accepted => Answered {
+            Verdict::Accepted => Opened {
                 answer: Verdict::Accepted,
                 account: opened_account(p),
             },
@@ -211,7 +236,7 @@ impl Account {
                     fee: 0,
                     volume: 0,
                 };
-                Answered {
+                Opened {
                     answer: Verdict::Refused(n),
                     account: opened_account(none),
                 }
@@ -228,23 +253,23 @@ impl Account {
     }
 
     // Refusal 0.
-    pub fn register(mut self, p: Place) -> Answered
-        ensures { λ r. ⌜ r ≡ answer-of self (Call.Register p) ⌝ }
+    pub fn register(mut self, p: Place) -> Applied
+        ensures { λ r. ⌜ r ≡ applied self (Call.Register p) ⌝ }
     {
         let state = self.state;
         let done = register_with(state, &self.log, p);
         let answer = done.answer;
         let next = done.state;
         self.state = next;
-        Answered {
+        Applied {
             answer: answer,
             account: self,
         }
     }
 
     // Refusals 0, 3, 4, 5, 6.
-    pub fn use_units(mut self, k: Kind, n: u64) -> Used
-        ensures { λ r. ⌜ r ≡ use-result self k n ⌝ }
+    pub fn use_units(mut self, k: Kind, n: u64) -> Applied
+        ensures { λ r. ⌜ r ≡ applied self (Call.Use k n) ⌝ }
     {
         let state = self.state;
         let used = use_with(state, &self.log, k, n);
@@ -255,49 +280,49 @@ impl Account {
             state: next,
             ..self
         };
-        Used {
+        Applied {
             answer: answer,
             account: account,
         }
     }
 
     // Refusals 0, 7, 8.
-    pub fn top_up(mut self, n: u64) -> Answered
-        ensures { λ r. ⌜ r ≡ answer-of self (Call.TopUp n) ⌝ }
+    pub fn top_up(mut self, n: u64) -> Applied
+        ensures { λ r. ⌜ r ≡ applied self (Call.TopUp n) ⌝ }
     {
         let state = self.state;
         let done = top_up_with(state, &self.log, n);
         let answer = done.answer;
         let next = done.state;
         self.state = next;
-        Answered {
+        Applied {
             answer: answer,
             account: self,
         }
     }
 
     // Refusals 0, 9.
-    pub fn next_day(mut self) -> Answered
-        ensures { λ r. ⌜ r ≡ answer-of self Call.NextDay ⌝ }
+    pub fn next_day(mut self) -> Applied
+        ensures { λ r. ⌜ r ≡ applied self Call.NextDay ⌝ }
     {
         let state = self.state;
         let done = next_day_with(state, &mut self.log);
         let answer = done.answer;
         let next = done.state;
         self.state = next;
-        Answered {
+        Applied {
             answer: answer,
             account: self,
         }
     }
 
     // Refusals 0, 3.
-    pub fn afford(mut self, k: Kind) -> Afforded
-        ensures { λ r. ⌜ r ≡ afford-result self k ⌝ }
+    pub fn afford(mut self, k: Kind) -> Applied
+        ensures { λ r. ⌜ r ≡ applied self (Call.Afford k) ⌝ }
     {
         let state = self.state;
         let answer = afford_with(state, &self.log, k);
-        Afforded {
+        Applied {
             answer: answer,
             account: self,
         }

@@ -1,6 +1,6 @@
 -- The calendar rule of the table of month starts, shown once: a test computed over its 132 entries.
 -- Assumes nothing.
-use mathlib.Core.Path.{_≡_, subst}
+use mathlib.Core.Path.{subst}
 use mathlib.Core.Bool.{Bool}
 use Prim.Native.Nat.{ℕ, _*_, _<_, _≤_}
 use lib.Dec.{eqb, leb, eqb→eq, leb→le}

@@ -1,5 +1,5 @@
--- The calendar by its rule: day 0 is 1 January 2022, and months are counted from that January, month 0, to December 2032, month 131.
--- Assumes nothing.
+-- The calendar by its rule: day 0 is 1 January 2022, and months are counted from that January, month 0, to December
+-- 2032, month 131. Assumes nothing.
 use Prim.Native.Nat.{ℕ, zero, suc, _+_, _/_, _%_}
 use mathlib.Core.Bool.{Bool, false, not, cond, _&&_, _||_}
 use mathlib.Core.List.{List, [], _∷_}
@@ -10,7 +10,8 @@ use lib.ListN.{getD}
 abbrev pub multiple : ℕ → ℕ → Bool
 multiple n y = eqb (y % n) 0
 
--- The Gregorian calendar: 1 in a leap year, else 0. A year is leap where 400 divides it, or where 4 divides it and 100 does not.
+-- The Gregorian calendar: 1 in a leap year, else 0. A year is leap where 400 divides it, or where 4 divides it and 100
+-- does not.
 unfoldable pub leap-day : ℕ → ℕ
 leap-day y = cond (multiple 400 y || multiple 4 y && not (multiple 100 y)) 1 0
 

@@ -149,8 +149,8 @@ fn month_start(month: usize) -> u64
     MONTH_STARTS[month]
 }
 
-// Is the day the first of a month? No month has more than 31 days, so each of the first `day / 31` months begins before the day.
-// The search starts after them, and ends at the first month that does not begin before the day.
+// Is the day the first of a month? No month has more than 31 days, so each of the first `day / 31` months begins before
+// the day. The search starts after them, and ends at the first month that does not begin before the day.
 pub fn starts_month(day: u64) -> bool
     ensures { λ r. ⌜ r ≡ starts-month day ⌝ }
 {

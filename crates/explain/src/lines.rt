@@ -1,9 +1,9 @@
 // The lines that are printed: a call with its answer, and the account after it.
 use account::Call;
-use metering::Charge;
-use metering::State;
 use presence::Location;
-use replay::Answer;
+use state::Answer;
+use state::Charge;
+use state::State;
 use tariff::Allowance;
 use tariff::Kind;
 use tariff::Place;
@@ -102,7 +102,7 @@ pub fn answer(c: Call, x: Answer) {
             charge(c, taken);
         }
         Answer::UpTo(n) => number(b": up to ", n),
-        Answer::Declined(n) => number(b": refused ", n),
+        Answer::Refused(n) => number(b": refused ", n),
     }
     text(b"\n");
 }
@@ -110,12 +110,13 @@ pub fn answer(c: Call, x: Answer) {
 // The account after a call, in a line of its own.
 pub fn after(s: State) {
     let at = s.place;
-    let allowance = s.allowance;
+    let quota = s.quota;
+    let allowance = quota.allowance;
     number(b"    day ", s.day);
     text(b", place ");
     location(at);
-    number(b", credit ", s.credit);
+    number(b", credit ", s.money.credit);
     limit(allowance);
-    number(b", roamed ", s.roamed);
+    number(b", roamed ", s.quota.roamed);
     text(b"\n");
 }

@@ -1,5 +1,6 @@
-// Explains the trip file on standard input: the opening and each call with its answer and the account after it, two lines each; or `file` and
-// its number. It only reads, calls and prints: what is decided is proved in `tripfile` and `replay`. `./explain` adds the words of a refusal.
+// Explains the trip file on standard input: the opening and each call with its answer and the account after it, two
+// lines each; or `file` and its number. It only reads, calls and prints: what is decided is proved in `tripfile`,
+// `replay` and `account`. `./explain` adds the words of a refusal.
 mod lines; // lines.rt: the lines that are printed
 
 use account::Account;
@@ -8,12 +9,13 @@ use replay::Coded;
 use tariff::Plan;
 use tripfile::Read;
 
-// One call of the file, the i-th from 1 on: its lines, and the account after it. A file that was read has no other codes (15).
+// One call of the file, the i-th from 1 on: its lines, and the account after it. A file that was read has no other
+// codes (15).
 fn explain_call(a: Account, i: u64, code: u32, n: u32) -> Account {
     let coded = replay::decode(code, n);
     match coded {
         Coded::Known(c) => {
-            let done = replay::apply(a, c);
+            let done = account::apply(a, c);
             let answer = done.answer;
             let next = done.account;
             let state = next.state;

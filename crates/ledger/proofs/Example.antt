@@ -16,9 +16,9 @@ use Rattle.tariff.specs.Caps.{table-of, built-in, row-at, first-rows, rows-of, 
 use Rattle.tariff.specs.Plan.{plan-verdict, plan-reasons, amount-reasons, unused-empty, prices-in-range, terms-in-range, plan-allowance, open-bundle}
 use Rattle.tariff.specs.Charges.{after-first, billed-kb, after-allowance, home-charges-of, surcharges-of}
 use Rattle.presence.specs.Day.{mark-day, add-day}
-use Rattle.metering.specs.Moves.{opened-state, enters, registered}
-use Rattle.metering.specs.Reasons.{overfills, use-reasons}
-use Rattle.metering.specs.Use.{charged-as, charged-units, billable, roaming, billed-of, surcharged-of, surcharged-units, billed-after, newly-surcharged, basis-after, home-after, extra-after, cost, spent}
+use Rattle.state.specs.Moves.{opened-state, enters, registered}
+use Rattle.state.specs.Reasons.{overfills, use-reasons}
+use Rattle.state.specs.Use.{charged-as, charged-units, billable, roaming, billed-of, surcharged-of, surcharged-units, billed-after, newly-surcharged, basis-after, home-after, extra-after, cost, spent}
 use Rattle.account.specs.declared.Account.{Account}
 use Rattle.account.specs.declared.Call.{Call}
 use Rattle.account.specs.declared.Call.the-variants.{Register, Use}
@@ -46,7 +46,7 @@ event a c = record { call = c; units = taken a c }
 
 module _ (a : Account) (c d e : Call) (p : accepts a c ≡ true) (q : accepts (after a c) d ≡ true) (r : accepts (after (after a c) d) e ≡ true) where
   run-three : run a (c ∷ d ∷ e ∷ []) ≡ after (after (after a c) d) e
-  unfolding run
+  unfolding machine.run machine.step step
   run-three = rw (step-is a c p, step-is (after a c) d q, step-is (after (after a c) d) e r) refl
 
   all-three : accepted account-calls a (c ∷ d ∷ e ∷ []) ≡ event a c ∷ event (after a c) d ∷ event (after (after a c) d) e ∷ []
@@ -187,7 +187,7 @@ module _ (m n : ℕ) where
     unfolding units-alone segments first-segment later-segments is-boundary units-of
     both-added = rw calls-accepted refl
 
-    charged-both : run start calling .state .chargedseconds ≡ 0 + max m 30 + max n 30
+    charged-both : run start calling .state .meters .chargedseconds ≡ 0 + max m 30 + max n 30
     unfolding after register-at registered opened opened-state spend spent charged-units charged-as
     charged-both = rw (run-three start (Register Zone) (Use Outgoing m) (Use Outgoing n) crossed once twice) refl
 

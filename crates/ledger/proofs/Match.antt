@@ -10,11 +10,11 @@ use borrow.Author.Tests.{eqb-true, eqb-false, ne-eqb}
 use Rattle.tariff.specs.declared.Kind.{Kind}
 use Rattle.tariff.specs.declared.Kind.the-variants.{Data, Outgoing, Incoming, Sms}
 use Rattle.tariff.specs.Units.{only}
-use Rattle.metering.specs.Use.{charged-units, with-seconds, spent}
-use Rattle.metering.specs.Moves.{registered, topped, next-state-of}
-use Rattle.metering.proofs.Adding.{Worked, spent-worked}
-use Rattle.metering.proofs.Bounds.{charged-is}
-use Rattle.metering.proofs.Verdicts.{some}
+use Rattle.state.specs.Use.{charged-units, with-seconds, spent}
+use Rattle.state.specs.Moves.{registered, topped, next-state-of}
+use Rattle.state.proofs.Adding.{Worked, spent-worked}
+use Rattle.state.proofs.Bounds.{charged-is}
+use Rattle.state.proofs.Verdicts.{some}
 use Rattle.account.specs.declared.Account.{Account}
 use Rattle.account.specs.declared.Call.{Call}
 use Rattle.account.specs.declared.Call.the-variants.{Register, Use, TopUp, NextDay, Afford}
@@ -90,7 +90,7 @@ absorb-add a t v w = go (is-empty t) refl (is-empty v) refl
 
 -- what an account holds of units and charged seconds
 held : Account → Taken
-held a = record { units = a .state .lifetime; seconds = a .state .chargedseconds }
+held a = record { units = a .state .meters .lifetime; seconds = a .state .meters .chargedseconds }
 
 absorb-held : (a : Account) (t : Taken) → held (absorb a t) ≡ both-taken (held a) t
 absorb-held a t = go (is-empty t) refl

@@ -24,10 +24,10 @@ use Rattle.presence.specs.declared.Location.the-variants.{Nowhere, At}
 use Rattle.presence.specs.declared.ServiceState.{ServiceState}
 use Rattle.presence.specs.declared.ServiceState.the-variants.{Clear, Warned, Surcharged}
 use Rattle.presence.specs.declared.Services.{Services}
-use Rattle.metering.specs.Use.{billable, roaming, billed-of, surcharged-of, surcharged-units}
+use Rattle.state.specs.Use.{billable, roaming, billed-of, surcharged-of, surcharged-units}
 use Rattle.account.specs.declared.Call.{Call}
 use Rattle.account.specs.declared.Call.the-variants.{Register, Use, TopUp, NextDay, Afford}
-use Rattle.ledger.specs.Journal.{Entry, charged-of, home-part, zone-part, of-month, monthly-kb, billed-units, last-place, sets-allowance, zone-of-month, zone-since, journal-roamed, journal-basis}
+use Rattle.ledger.specs.Journal.{Entry, Opening, charged-of, home-part, zone-part, of-month, monthly-kb, billed-units, last-place, sets-allowance, zone-of-month, zone-since, journal-roamed, journal-basis}
 
 -- no units: nothing is priced, surcharged or counted
 billable-none : (w : Location) → billable w zero-units ≡ zero-units
@@ -123,34 +123,34 @@ module _ (i : Entry) (is : List Entry) (e : (w : Location) → charged-of w (i .
   unfolding zone-part
   zone-none = rw e (roaming-none (i .place))
 
-  pub billed-quiet : (p : Plan) → billed-units p (i ∷ is) ≡ billed-units p is
+  pub billed-quiet : (o : Opening) → billed-units o (i ∷ is) ≡ billed-units o is
   unfolding billed-units
-  billed-quiet p =
-      ap (λ (x : Units). billed-units p is ⊕ x) (ap (billed-of p (monthly-kb p (i .day) is)) home-none ∙ billed-none p _) ∙ ⊕-zero (billed-units p is)
+  billed-quiet o =
+      ap (λ (x : Units). billed-units o is ⊕ x) (ap (billed-of (o .plan) (monthly-kb o (i .day) is)) home-none ∙ billed-none (o .plan) _) ∙ ⊕-zero (billed-units o is)
 
-  pub basis-quiet : (p : Plan) → journal-basis p (i ∷ is) ≡ journal-basis p is
+  pub basis-quiet : (o : Opening) → journal-basis o (i ∷ is) ≡ journal-basis o is
   unfolding journal-basis
-  basis-quiet p =
-      ap (λ (x : Units). journal-basis p is ⊕ caps-on built-in (i .day) ⊗ x) (ap (surcharged-units _ _ _) zone-none ∙ surcharged-none _ _ _)
-      ∙ ap (λ (x : Units). journal-basis p is ⊕ x) (⊗-zero (caps-on built-in (i .day))) ∙ ⊕-zero (journal-basis p is)
+  basis-quiet o =
+      ap (λ (x : Units). journal-basis o is ⊕ caps-on built-in (i .day) ⊗ x) (ap (surcharged-units _ _ _) zone-none ∙ surcharged-none _ _ _)
+      ∙ ap (λ (x : Units). journal-basis o is ⊕ x) (⊗-zero (caps-on built-in (i .day))) ∙ ⊕-zero (journal-basis o is)
 
-  pub monthly-quiet : (p : Plan) (d : ℕ) → monthly-kb p d (i ∷ is) ≡ monthly-kb p d is
+  pub monthly-quiet : (o : Opening) (d : ℕ) → monthly-kb o d (i ∷ is) ≡ monthly-kb o d is
   unfolding monthly-kb
-  monthly-quiet p d = simp (home-none, counted-none, of-month-none, add-zero)
+  monthly-quiet o d = simp (home-none, counted-none, of-month-none, add-zero)
 
-  zone-month-quiet : (d : ℕ) → zone-of-month d (i ∷ is) ≡ zone-of-month d is
+  zone-month-quiet : (o : Opening) (d : ℕ) → zone-of-month o d (i ∷ is) ≡ zone-of-month o d is
   unfolding zone-of-month
-  zone-month-quiet d = simp (zone-none, of-month-none, add-zero)
+  zone-month-quiet o d = simp (zone-none, of-month-none, add-zero)
 
-  since-quiet : zone-since (i ∷ is) ≡ cond (sets-allowance Prepaid (last-place is) (i .call)) 0 (zone-since is)
+  since-quiet : (o : Opening) → zone-since o (i ∷ is) ≡ cond (sets-allowance Prepaid (last-place o is) (i .call)) 0 (zone-since o is)
   unfolding zone-since
-  since-quiet = simp (zone-none, add-zero)
+  since-quiet o = simp (zone-none, add-zero)
 
-  pub roamed-quiet : (p : Plan) (d : ℕ) → journal-roamed p d (i ∷ is) ≡ cond (sets-allowance (p .form) (last-place is) (i .call)) 0 (journal-roamed p d is)
+  pub roamed-quiet : (o : Opening) (d : ℕ) → journal-roamed o d (i ∷ is) ≡ cond (sets-allowance (o .plan .form) (last-place o is) (i .call)) 0 (journal-roamed o d is)
   unfolding journal-roamed
-  roamed-quiet p d = go (is-prepaid (p .form)) refl
+  roamed-quiet o d = go (is-prepaid (o .plan .form)) refl
     where
-      go : (b : Bool) → is-prepaid (p .form) ≡ b
-          → journal-roamed p d (i ∷ is) ≡ cond (sets-allowance (p .form) (last-place is) (i .call)) 0 (journal-roamed p d is)
-      go true f = rw (f, sets-prepaid (p .form) (last-place is) (i .call) f) since-quiet
-      go false f = rw (f, sets-bundle (p .form) (last-place is) (i .call) f) (zone-month-quiet d)
+      go : (b : Bool) → is-prepaid (o .plan .form) ≡ b
+          → journal-roamed o d (i ∷ is) ≡ cond (sets-allowance (o .plan .form) (last-place o is) (i .call)) 0 (journal-roamed o d is)
+      go true f = rw (f, sets-prepaid (o .plan .form) (last-place o is) (i .call) f) (since-quiet o)
+      go false f = rw (f, sets-bundle (o .plan .form) (last-place o is) (i .call) f) (zone-month-quiet o d)

@@ -1,5 +1,6 @@
--- Why the match is about the accounts before all cuts and at the end together: two lists whose accounts at the end say nothing of their stretches. And why
--- it is about charged seconds beside units: two lists with the same units, whose accounts differ. Assumes nothing.
+-- Why the match is about the accounts before all cuts and at the end together: two lists whose accounts at the end say
+-- nothing of their stretches. And why it is about charged seconds beside units: two lists with the same units, whose
+-- accounts differ. Assumes nothing.
 use Prim.Native.Nat.{ℕ}
 use mathlib.Core.Path.{_≡_}
 use mathlib.Core.List.{List, [], _∷_}
@@ -56,8 +57,8 @@ units-alone (t ∷ ts) = t .units ∷ units-alone ts
 pub record UnitsAlike (a : Account) (xs ys : List Call) (x y : ℕ) : Type 0 where
   pub same-cuts : cuts account-calls a xs ≡ cuts account-calls a ys
   pub same-units : units-alone (stretches account-calls a xs) ≡ units-alone (stretches account-calls a ys)
-  pub first-charged : run a xs .state .chargedseconds ≡ x
-  pub second-charged : run a ys .state .chargedseconds ≡ y
+  pub first-charged : run a xs .state .meters .chargedseconds ≡ x
+  pub second-charged : run a ys .state .meters .chargedseconds ≡ y
 
 -- so a match by the units alone would be false: 70 charged seconds against 60
 abbrev pub UnitsAreNotEnough : Type 0

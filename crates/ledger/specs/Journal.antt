@@ -1,5 +1,6 @@
--- 01, "Lists of calls and the book": the book, here the journal, worked out from the opening and the accepted calls alone. Its items, here entries,
--- stand latest first, so that "earlier items" are the rest of the list. Assumes nothing.
+-- 01, "Lists of calls and the book": the book, here the journal, worked out from the opening and the accepted calls
+-- alone. Its items, here entries, stand latest first, so that "earlier items" are the rest of the list. Assumes
+-- nothing.
 use Prim.Native.Nat.{ℕ, zero, suc, _+_, _-_, min}
 use mathlib.Core.Bool.{Bool, true, false, not, cond, _&&_, _||_}
 use mathlib.Core.List.{List, [], _∷_, _++_}
@@ -24,13 +25,14 @@ use Rattle.presence.specs.declared.Day.{Day}
 use Rattle.presence.specs.declared.Services.{Services}
 use Rattle.presence.specs.declared.ServiceState.the-variants.{Clear}
 use Rattle.presence.specs.Day.{empty-day}
+use Rattle.presence.specs.Log.{days-of}
 use Rattle.presence.specs.Service.{services-after}
-use Rattle.metering.specs.Use.{billable, roaming, billed-of, surcharged-units}
+use Rattle.state.specs.Use.{billable, roaming, billed-of, surcharged-units}
 use Rattle.account.specs.declared.Account.{Account}
 use Rattle.account.specs.declared.Call.{Call}
 use Rattle.account.specs.declared.Call.the-variants.{Register, Use, TopUp, NextDay, Afford}
 use Rattle.account.specs.Calls.{accepts, step}
-use Rattle.ledger.specs.Lists.{units-of}
+use Rattle.ledger.specs.Lists.{units-of, amount-of, marks}
 
 -- "An accepted call adds an item: call, day, place (for a registration the new one)."
 pub record Entry : Type 0 where
@@ -44,9 +46,64 @@ pub record Journal : Type 0 where
   pub day : ℕ
   pub place : Location
 
--- "It begins with no items, at the start day, place none."
-unfoldable pub new-journal : Plan → Journal
-new-journal p = record { entries = []; day = p .start; place = Nowhere }
+-- what the book begins with: the plan; the day, the place, L and the service states; paid in, priced units and sums of
+-- cap × units so far; H and R so far; the units and marks of the day so far; the days before it, and how many of them
+-- count
+pub record Opening : Type 0 where
+  pub plan : Plan
+  pub day : ℕ
+  pub place : Location
+  pub paid : ℕ
+  pub billed : Units
+  pub basis : Units
+  pub monthly : ℕ
+  pub roamed : ℕ
+  pub allowance : Allowance
+  pub today : Day
+  pub days : List Day
+  pub logged : ℕ
+  pub services : Services
+
+-- of a new account, from what Open got and nothing else: the start day, place none, no numbers, L of the start day's
+-- cap, empty days, Clear
+unfoldable pub new-opening : Plan → Opening
+new-opening p = record {
+  plan = p;
+  day = p .start;
+  place = Nowhere;
+  paid = 0;
+  billed = zero-units;
+  basis = zero-units;
+  monthly = 0;
+  roamed = 0;
+  allowance = plan-allowance p (caps-on built-in (p .start) .kb);
+  today = empty-day;
+  days = replicate 123 empty-day;
+  logged = 0;
+  services = record { internet = Clear; calls = Clear; messages = Clear };
+}
+
+-- of an account that is not new: what came before the first item is told by its fields
+unfoldable pub opening-of : Account → Opening
+opening-of a = record {
+  plan = a .state .plan;
+  day = a .state .day;
+  place = a .state .place;
+  paid = a .state .money .paid;
+  billed = a .state .meters .billed;
+  basis = a .state .meters .basis;
+  monthly = a .state .quota .monthly;
+  roamed = a .state .quota .roamed;
+  allowance = a .state .quota .allowance;
+  today = a .state .today;
+  days = days-of (a .log);
+  logged = a .state .logged;
+  services = a .state .services;
+}
+
+-- the book before its first item
+unfoldable pub new-journal : Opening → Journal
+new-journal o = record { entries = []; day = o .day; place = o .place }
 
 -- "A registration sets the place"
 unfoldable pub place-after : Location → Call → Location
@@ -82,18 +139,10 @@ unfoldable pub write : Journal → List (Call × Bool) → Journal
 write j [] = j
 write j (f ∷ fs) = write (cond (f .1) (enter j (f .0)) j) fs
 
--- the amount of a top-up
-unfoldable pub amount-of : Call → ℕ
-amount-of (Register q) = 0
-amount-of (Use k n) = 0
-amount-of (TopUp n) = n
-amount-of NextDay = 0
-amount-of (Afford k) = 0
-
 -- "Paid in is the sum of the top-ups."
-unfoldable pub paid-in : List Entry → ℕ
-paid-in [] = 0
-paid-in (e ∷ es) = paid-in es + amount-of (e .call)
+unfoldable pub paid-in : Opening → List Entry → ℕ
+paid-in o [] = o .paid
+paid-in o (e ∷ es) = paid-in o es + amount-of (e .call)
 
 -- the location is the place
 unfoldable pub at-place : Place → Location → Bool
@@ -108,8 +157,8 @@ at-place Elsewhere (At Home) = false
 at-place Elsewhere (At Zone) = false
 at-place Elsewhere (At Elsewhere) = true
 
--- 02, 3/13: the units that an item pays for, told from its place and n by the book itself: an outgoing call in the zone that ended before 30 seconds were
--- over pays for 30, and everything else for what was used
+-- 02, 3/13: the units that an item pays for, told from its place and n by the book itself: an outgoing call in the zone
+-- that ended before 30 seconds were over pays for 30, and everything else for what was used
 unfoldable pub charged-of : Location → Call → Units
 charged-of w (Register q) = zero-units
 charged-of w (Use Data n) = each n 0 0 0
@@ -132,24 +181,29 @@ zone-part e = roaming (e .place) (charged-of (e .place) (e .call))
 unfoldable pub of-month : ℕ → Entry → ℕ → ℕ
 of-month d e n = cond (eqb (month-of (e .day)) (month-of d)) n 0
 
--- "H is a bundle's home and zone kB in earlier items of the month."
-unfoldable pub monthly-kb : Plan → ℕ → List Entry → ℕ
-monthly-kb p d [] = 0
-monthly-kb p d (e ∷ es) = monthly-kb p d es + of-month d e (counted-kb (p .form) (home-part e .kb))
+-- n, a sum of the month that the book began in, where the day is of that month, else 0
+unfoldable pub month-before : Opening → ℕ → ℕ → ℕ
+month-before o d n = cond (eqb (month-of (o .day)) (month-of d)) n 0
+
+-- "H is a bundle's home and zone kB in earlier items of the month." A prepaid plan's, which nothing reads, stays as it
+-- began.
+unfoldable pub monthly-kb : Opening → ℕ → List Entry → ℕ
+monthly-kb o d [] = cond (is-prepaid (o .plan .form)) (o .monthly) (month-before o d (o .monthly))
+monthly-kb o d (e ∷ es) = monthly-kb o d es + of-month d e (counted-kb (o .plan .form) (home-part e .kb))
 
 -- priced units of each use, "by the rules of Use", added up
-unfoldable pub billed-units : Plan → List Entry → Units
-billed-units p [] = zero-units
-billed-units p (e ∷ es) = billed-units p es ⊕ billed-of p (monthly-kb p (e .day) es) (home-part e)
+unfoldable pub billed-units : Opening → List Entry → Units
+billed-units o [] = o .billed
+billed-units o (e ∷ es) = billed-units o es ⊕ billed-of (o .plan) (monthly-kb o (e .day) es) (home-part e)
 
 -- home charges over all items
-unfoldable pub journal-home : Plan → List Entry → ℕ
-journal-home p es = home-charges-of p (billed-units p es)
+unfoldable pub journal-home : Opening → List Entry → ℕ
+journal-home o es = home-charges-of (o .plan) (billed-units o es)
 
 -- the place after the entries
-unfoldable pub last-place : List Entry → Location
-last-place [] = Nowhere
-last-place (e ∷ es) = e .place
+unfoldable pub last-place : Opening → List Entry → Location
+last-place o [] = o .place
+last-place o (e ∷ es) = e .place
 
 -- a registration comes into the zone from another place or none
 unfoldable pub comes-in : Location → Place → Bool
@@ -174,84 +228,95 @@ changes-month p d NextDay = not (is-prepaid (p .form)) && not (eqb (month-of (su
 changes-month p d (Afford k) = false
 
 -- zone kB in the entries of the day's month
-unfoldable pub zone-of-month : ℕ → List Entry → ℕ
-zone-of-month d [] = 0
-zone-of-month d (e ∷ es) = zone-of-month d es + of-month d e (zone-part e .kb)
+unfoldable pub zone-of-month : Opening → ℕ → List Entry → ℕ
+zone-of-month o d [] = month-before o d (o .roamed)
+zone-of-month o d (e ∷ es) = zone-of-month o d es + of-month d e (zone-part e .kb)
 
 -- zone kB since the last entry into the zone or top-up there
-unfoldable pub zone-since : List Entry → ℕ
-zone-since [] = 0
-zone-since (e ∷ es) = cond (sets-allowance Prepaid (last-place es) (e .call)) 0 (zone-since es + zone-part e .kb)
+unfoldable pub zone-since : Opening → List Entry → ℕ
+zone-since o [] = o .roamed
+zone-since o (e ∷ es) = cond (sets-allowance Prepaid (last-place o es) (e .call)) 0 (zone-since o es + zone-part e .kb)
 
--- "R is the zone kB in earlier items: a bundle's of the month, a prepaid plan's since its last entry into the zone or top-up there."
-unfoldable pub journal-roamed : Plan → ℕ → List Entry → ℕ
-journal-roamed p d es = cond (is-prepaid (p .form)) (zone-since es) (zone-of-month d es)
+-- "R is the zone kB in earlier items: a bundle's of the month, a prepaid plan's since its last entry into the zone or
+-- top-up there."
+unfoldable pub journal-roamed : Opening → ℕ → List Entry → ℕ
+journal-roamed o d es = cond (is-prepaid (o .plan .form)) (zone-since o es) (zone-of-month o d es)
 
--- registrations and uses are the calls that mark a day
-unfoldable pub marks : Call → Bool
-marks (Register q) = true
-marks (Use k n) = true
-marks (TopUp n) = false
-marks NextDay = false
-marks (Afford k) = false
+-- a day's mark of a place
+unfoldable pub mark-at : Place → Day → Bool
+mark-at Home d = d .home
+mark-at Zone d = d .zone
+mark-at Elsewhere d = d .elsewhere
+
+-- a day's units at a place
+unfoldable pub units-at : Place → Day → Units
+units-at Home d = d .athome
+units-at Zone d = d .inzone
+units-at Elsewhere d = d .outside
 
 -- "A day's marks are the places of its registrations and uses": is the day marked with the place?
-unfoldable pub marked-on : ℕ → Place → List Entry → Bool
-marked-on d p [] = false
-marked-on d p (e ∷ es) = (eqb (e .day) d && (marks (e .call) && at-place p (e .place))) || marked-on d p es
+unfoldable pub marked-on : Opening → ℕ → Place → List Entry → Bool
+marked-on o d p [] = eqb (o .day) d && mark-at p (o .today)
+marked-on o d p (e ∷ es) = (eqb (e .day) d && (marks (e .call) && at-place p (e .place))) || marked-on o d p es
 
 -- a day's units at a place; seconds are those spoken, by which 02, 3/13, has prevalence decided
-unfoldable pub used-on : ℕ → Place → List Entry → Units
-used-on d p [] = zero-units
-used-on d p (e ∷ es) = cond (eqb (e .day) d && at-place p (e .place)) (used-on d p es ⊕ units-of (e .call)) (used-on d p es)
+unfoldable pub used-on : Opening → ℕ → Place → List Entry → Units
+used-on o d p [] = cond (eqb (o .day) d) (units-at p (o .today)) zero-units
+used-on o d p (e ∷ es) = cond (eqb (e .day) d && at-place p (e .place))
+    (used-on o d p es ⊕ units-of (e .call)) (used-on o d p es)
 
 -- the day, its marks "with its units"
-unfoldable pub day-of : ℕ → List Entry → Day
-day-of d es = record {
-  home = marked-on d Home es;
-  zone = marked-on d Zone es;
-  elsewhere = marked-on d Elsewhere es;
-  athome = used-on d Home es;
-  inzone = used-on d Zone es;
-  outside = used-on d Elsewhere es;
+unfoldable pub day-of : Opening → ℕ → List Entry → Day
+day-of o d es = record {
+  home = marked-on o d Home es;
+  zone = marked-on o d Zone es;
+  elsewhere = marked-on o d Elsewhere es;
+  athome = used-on o d Home es;
+  inzone = used-on o d Zone es;
+  outside = used-on o d Elsewhere es;
 }
 
--- the first k days from the start, the latest first
-unfoldable pub days : ℕ → ℕ → List Entry → List Day
-days s zero es = []
-days s (suc k) es = day-of (s + k) es ∷ days s k es
+-- the first k days from the opening on, the latest first
+unfoldable pub days : Opening → ℕ → List Entry → List Day
+days o zero es = []
+days o (suc k) es = day-of o (o .day + k) es ∷ days o k es
 
--- the last 123 of them, with empty days where they are fewer
-unfoldable pub last-days : List Day → List Day
-last-days ds = take 123 (ds ++ replicate 123 empty-day)
+-- the last 123 of them and those before, which are empty days where there were none
+unfoldable pub last-days : Opening → List Day → List Day
+last-days o ds = take 123 (ds ++ o .days)
 
--- "with its units they give the service states, by the rules of Next day": the states after the first k days
-unfoldable pub journal-services : ℕ → ℕ → List Entry → Services
-journal-services s zero es = record { internet = Clear; calls = Clear; messages = Clear }
-journal-services s (suc k) es = services-after (min 123 (suc k)) (last-days (days s (suc k) es)) (journal-services s k es)
+-- "with its units they give the service states, by the rules of Next day": the states after the first k days from the
+-- opening on
+unfoldable pub journal-services : Opening → ℕ → List Entry → Services
+journal-services o zero es = o .services
+journal-services o (suc k) es = services-after (min 123 (o .logged + suc k))
+    (last-days o (days o (suc k) es)) (journal-services o k es)
 
--- "L is as last set by the rules above; the credit in it is paid in less both charges, over the items up to that one." The sums of cap × units are
--- those of the earlier entries, which an entry that sets L leaves as they are: it has no units.
-unfoldable pub new-allowance : Plan → Entry → List Entry → Allowance → Units → Allowance
-new-allowance p e es old basis =
-    cond (sets-allowance (p .form) (last-place es) (e .call))
-    (credit-allowance (paid-in (e ∷ es) - (journal-home p (e ∷ es) + surcharges-of basis)) (caps-on built-in (e .day) .kb))
-    (cond (changes-month p (e .day) (e .call)) (plan-allowance p (caps-on built-in (suc (e .day)) .kb)) old)
+-- "L is as last set by the rules above; the credit in it is paid in less both charges, over the items up to that one."
+-- The sums of cap × units are those of the earlier entries, which an entry that sets L leaves as they are: it has no
+-- units.
+unfoldable pub new-allowance : Opening → Entry → List Entry → Allowance → Units → Allowance
+new-allowance o e es old basis =
+    cond (sets-allowance (o .plan .form) (last-place o es) (e .call))
+    (credit-allowance
+    (paid-in o (e ∷ es) - (journal-home o (e ∷ es) + surcharges-of basis)) (caps-on built-in (e .day) .kb))
+    (cond (changes-month (o .plan) (e .day) (e .call))
+    (plan-allowance (o .plan) (caps-on built-in (suc (e .day)) .kb)) old)
 
 -- L after the entries, and the sums of cap × surcharged units of each use, "by the rules of Use"
 unfoldable mutual
-  pub journal-allowance : Plan → List Entry → Allowance
-  journal-allowance p [] = plan-allowance p (caps-on built-in (p .start) .kb)
-  journal-allowance p (e ∷ es) = new-allowance p e es (journal-allowance p es) (journal-basis p es)
+  pub journal-allowance : Opening → List Entry → Allowance
+  journal-allowance o [] = o .allowance
+  journal-allowance o (e ∷ es) = new-allowance o e es (journal-allowance o es) (journal-basis o es)
 
-  pub journal-basis : Plan → List Entry → Units
-  journal-basis p [] = zero-units
-  journal-basis p (e ∷ es) = journal-basis p es ⊕ caps-on built-in (e .day) ⊗ surcharged-units
-      (journal-services (p .start) (e .day - p .start) es)
-      (journal-allowance p es)
-      (journal-roamed p (e .day) es)
+  pub journal-basis : Opening → List Entry → Units
+  journal-basis o [] = o .basis
+  journal-basis o (e ∷ es) = journal-basis o es ⊕ caps-on built-in (e .day) ⊗ surcharged-units
+      (journal-services o (e .day - o .day) es)
+      (journal-allowance o es)
+      (journal-roamed o (e .day) es)
       (zone-part e)
 
 -- surcharges over all items
-unfoldable pub journal-surcharges : Plan → List Entry → ℕ
-journal-surcharges p es = surcharges-of (journal-basis p es)
+unfoldable pub journal-surcharges : Opening → List Entry → ℕ
+journal-surcharges o es = surcharges-of (journal-basis o es)

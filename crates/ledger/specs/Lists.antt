@@ -1,38 +1,54 @@
--- 01, "Lists of calls and the book", with 02, 3/13: lists of calls on an account, which calls are cuts, and what a call adds to its stretch: units and
--- charged seconds. Assumes nothing.
+-- 01, "Lists of calls and the book", with 02, 3/13: lists of calls on an account, which calls are cuts, and what a call
+-- adds to its stretch: units and charged seconds. Assumes nothing.
 use Prim.Native.Nat.{ℕ, _+_}
 use mathlib.Core.Bool.{Bool, true, false}
-use mathlib.Core.List.{List, [], _∷_}
+use mathlib.Core.List.{List}
 use Rattle.tariff.specs.declared.Units.{Units}
 use Rattle.tariff.specs.Units.{zero-units, _⊕_, only}
 use Rattle.presence.specs.declared.Location.{Location}
-use Rattle.metering.specs.Use.{charged-units}
+use Rattle.state.specs.Use.{charged-units}
 use Rattle.account.specs.declared.Account.{Account}
 use Rattle.account.specs.declared.Call.{Call}
 use Rattle.account.specs.declared.Call.the-variants.{Register, Use, TopUp, NextDay, Afford}
-use Rattle.account.specs.Calls.{accepts, after, step}
+use Rattle.account.specs.Calls.{accepts, after}
+use Rattle.machine.specs.Machine as machine
 use Rattle.machine.specs.Machine.{Machine}
 
--- "The first call gets the account as Open returned it, each other one what the call before handed back": the account after a list
-unfoldable pub run : Account → List Call → Account
-run a [] = a
-run a (c ∷ cs) = run (step a c) cs
+-- what a call is by itself, whatever account it is made on: its units, kind by kind, seconds as spoken; the points that
+-- it pays in; whether it marks the day with its place; whether it is a cut
+pub record Meaning : Type 0 where
+  pub units : Units
+  pub points : ℕ
+  pub marks : Bool
+  pub cuts : Bool
 
--- "Accepted registrations, top-ups and day changes are the cuts"
+-- a row of the table below
+abbrev row : Units → ℕ → Bool → Bool → Meaning
+row u n m c = record { units = u; points = n; marks = m; cuts = c }
+
+-- the table of calls: registrations and uses mark the day; registrations, top-ups and day changes are cuts
+abbrev pub meaning : Call → Meaning
+meaning (Register p) = row zero-units 0 true true
+meaning (Use k n) = row (only k n) 0 true false
+meaning (TopUp n) = row zero-units n false true
+meaning NextDay = row zero-units 0 false true
+meaning (Afford k) = row zero-units 0 false false
+
+-- the call is a cut, if it is accepted
 unfoldable pub is-boundary : Call → Bool
-is-boundary (Register p) = true
-is-boundary (Use k n) = false
-is-boundary (TopUp n) = true
-is-boundary NextDay = true
-is-boundary (Afford k) = false
+is-boundary c = meaning c .cuts
 
--- the units of a call, kind by kind: "the sum of n over its accepted uses of that kind" adds these
+-- the units of a call: a stretch has their sum over its accepted calls
 unfoldable pub units-of : Call → Units
-units-of (Register p) = zero-units
-units-of (Use k n) = only k n
-units-of (TopUp n) = zero-units
-units-of NextDay = zero-units
-units-of (Afford k) = zero-units
+units-of c = meaning c .units
+
+-- the points that a call pays in
+unfoldable pub amount-of : Call → ℕ
+amount-of c = meaning c .points
+
+-- the call marks the day with its place
+unfoldable pub marks : Call → Bool
+marks c = meaning c .marks
 
 -- the outgoing seconds that a call is charged for at a place; those spoken are among its units
 unfoldable pub seconds-of : Location → Call → ℕ
@@ -59,7 +75,8 @@ none-taken = record { units = zero-units; seconds = 0 }
 abbrev pub both-taken : Taken → Taken → Taken
 both-taken t v = record { units = t .units ⊕ v .units; seconds = t .seconds + v .seconds }
 
--- the account as a state that calls are made on: `machine/specs/Machine` has the accepted calls of a list, cuts, stretches and accounts to compare
+-- the account as a state that calls are made on: `machine/specs/Machine` has the accepted calls of a list, cuts,
+-- stretches and accounts to compare
 abbrev pub account-calls : Machine
 account-calls = record {
   State = Account;
@@ -72,3 +89,7 @@ account-calls = record {
   none = none-taken;
   plus = both-taken;
 }
+
+-- the account after a list of calls on it
+abbrev pub run : Account → List Call → Account
+run a cs = machine.run account-calls a cs

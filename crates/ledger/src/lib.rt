@@ -1,5 +1,6 @@
 // Lists of calls and the book: claims about whole lists of calls, stated in specs/Demand3.antt.
-ghost use Rattle.ledger.specs.Demand3.{Demand3, MatchesFromSound, SoundStaysSound, OneMoreThanCuts, EndIsCompared};
+ghost use Rattle.ledger.specs.Demand3.{Demand3, Demand3FromSound, SoundStaysSound, OneMoreThanCuts};
+ghost use Rattle.ledger.specs.Demand3.{EndIsCompared};
 ghost use Rattle.ledger.specs.Example.{EndIsNotEnough, UnitsAreNotEnough};
 
 // Demand 3: two accounts opened alike match exactly when their stretches do, and the book shows each account's money.
@@ -7,9 +8,9 @@ pub fn demand_3()
     ensures { λ _. ⌜ Demand3 ⌝ }
 {}
 
-// The match holds from any sound account.
-pub fn matches_from_sound()
-    ensures { λ _. ⌜ MatchesFromSound ⌝ }
+// The same from any sound account: match, money and soundness.
+pub fn demand_3_from_sound()
+    ensures { λ _. ⌜ Demand3FromSound ⌝ }
 {}
 
 // A sound account stays sound through every list of calls.

@@ -1,5 +1,6 @@
--- 01, "Lists of calls and the book", for any state that calls are made on: which calls of a list are accepted, the cuts among them, the stretches
--- between the cuts, the states just before each cut and at the end, and the match of two lists. The account is a case (`ledger`). Assumes nothing.
+-- 01, "Lists of calls and the book", for any state that calls are made on: which calls of a list are accepted, the cuts
+-- among them, the stretches between the cuts, the states just before each cut and at the end, and the match of two
+-- lists. The account is a case (`ledger`). Assumes nothing.
 use Prim.Native.Nat.{_+_}
 use mathlib.Core.Path.{_≡_}
 use mathlib.Core.Bool.{Bool, cond, _&&_}
@@ -7,8 +8,8 @@ use mathlib.Core.Logic.{_↔_}
 use mathlib.Core.List.{List, [], _∷_}
 use lib.ListN.{length}
 
--- a state with its calls: whether a call is accepted, what it then makes of the state, whether it is a cut, and the units that it takes of a state,
--- which can be none and which add up
+-- a state with its calls: whether a call is accepted, what it then makes of the state, whether it is a cut, and the
+-- units that it takes of a state, which can be none and which add up
 pub record Machine : Type 1 where
   pub State : Type 0
   pub Call : Type 0
@@ -29,10 +30,16 @@ pub record Event (m : Machine) : Type 0 where
 unfoldable pub step : (m : Machine) → m .State → m .Call → m .State
 step m s c = cond (m .accepts s c) (m .after s c) s
 
+-- the state after a list: each call works on what the one before left
+unfoldable pub run : (m : Machine) → m .State → List (m .Call) → m .State
+run m s [] = s
+run m s (c ∷ cs) = run m (step m s c) cs
+
 -- the accepted calls of a list
 unfoldable pub accepted : (m : Machine) → m .State → List (m .Call) → List (Event m)
 accepted m s [] = []
-accepted m s (c ∷ cs) = cond (m .accepts s c) (record { call = c; units = m .units-of s c } ∷ accepted m (step m s c) cs) (accepted m (step m s c) cs)
+accepted m s (c ∷ cs) = cond (m .accepts s c)
+    (record { call = c; units = m .units-of s c } ∷ accepted m (step m s c) cs) (accepted m (step m s c) cs)
 
 -- the cuts among accepted calls, each as it was called
 unfoldable pub boundaries : (m : Machine) → List (Event m) → List (m .Call)
@@ -47,7 +54,8 @@ first-segment m (e ∷ es) = cond (m .is-boundary (e .call)) (m .none) (m .plus 
 -- the units of the stretches after each cut
 unfoldable pub later-segments : (m : Machine) → List (Event m) → List (m .Units)
 later-segments m [] = []
-later-segments m (e ∷ es) = cond (m .is-boundary (e .call)) (first-segment m es ∷ later-segments m es) (later-segments m es)
+later-segments m (e ∷ es) = cond (m .is-boundary (e .call))
+    (first-segment m es ∷ later-segments m es) (later-segments m es)
 
 -- the units of all stretches, one more than there are cuts
 unfoldable pub segments : (m : Machine) → List (Event m) → List (m .Units)
@@ -56,7 +64,8 @@ segments m es = first-segment m es ∷ later-segments m es
 -- the state just before each accepted cut of the list, and at its end
 unfoldable pub snapshots : (m : Machine) → m .State → List (m .Call) → List (m .State)
 snapshots m s [] = s ∷ []
-snapshots m s (c ∷ cs) = cond (m .accepts s c && m .is-boundary c) (s ∷ snapshots m (step m s c) cs) (snapshots m (step m s c) cs)
+snapshots m s (c ∷ cs) = cond (m .accepts s c && m .is-boundary c)
+    (s ∷ snapshots m (step m s c) cs) (snapshots m (step m s c) cs)
 
 -- the accepted cuts of a list, in their order
 abbrev pub cuts : (m : Machine) → m .State → List (m .Call) → List (m .Call)
@@ -66,10 +75,11 @@ cuts m s cs = boundaries m (accepted m s cs)
 abbrev pub stretches : (m : Machine) → m .State → List (m .Call) → List (m .Units)
 stretches m s cs = segments m (accepted m s cs)
 
--- two states and a list of calls on each, where the accepted cuts are the same in the same order: the states before each cut and the last ones are equal,
--- pair by pair, exactly if the units of all stretches are
+-- two states and a list of calls on each, where the accepted cuts are the same in the same order: the states before
+-- each cut and the last ones are equal, pair by pair, exactly if the units of all stretches are
 abbrev pub Matches : (m : Machine) → m .State → m .State → List (m .Call) → List (m .Call) → Type 0
-Matches m s t xs ys = cuts m s xs ≡ cuts m t ys → (snapshots m s xs ≡ snapshots m t ys) ↔ (stretches m s xs ≡ stretches m t ys)
+Matches m s t xs ys = cuts m s xs ≡ cuts m t ys
+    → (snapshots m s xs ≡ snapshots m t ys) ↔ (stretches m s xs ≡ stretches m t ys)
 
 -- a list has one stretch more than cuts, and one state for each cut and for the end
 pub record OneMore (m : Machine) (s : m .State) (cs : List (m .Call)) : Type 0 where

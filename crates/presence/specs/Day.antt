@@ -1,10 +1,10 @@
--- 01, "Account and its calls": the record of a day (its marks, and its units of each kind at each place), what a day counts as, and the log of days. Assumes nothing.
+-- 01, "Account and its calls": the record of a day (its marks, and its units of each kind at each place), what a day
+-- counts as, and the log of days. Assumes nothing.
 use Prim.Native.Nat.{ℕ}
 use mathlib.Core.Bool.{Bool, true, false, cond, _||_}
 use mathlib.Core.List.{List, _∷_}
 use lib.ListN.{take}
 use Rattle.tariff.specs.declared.Units.{Units}
-use Rattle.tariff.specs.declared.Place.{Place}
 use Rattle.tariff.specs.declared.Place.the-variants.{Home, Zone, Elsewhere}
 use Rattle.tariff.specs.Units.{zero-units, _⊕_, Adds}
 use Rattle.presence.specs.declared.Location.{Location}
@@ -27,21 +27,70 @@ is-placed (At p) = true
 
 -- "today is emptied": a day without marks and units
 abbrev pub empty-day : Day
-empty-day = record { home = false; zone = false; elsewhere = false; athome = zero-units; inzone = zero-units; outside = zero-units }
+empty-day = record {
+  home = false;
+  zone = false;
+  elsewhere = false;
+  athome = zero-units;
+  inzone = zero-units;
+  outside = zero-units;
+}
 
 -- "marks today with the place"
 unfoldable pub mark-day : Location → Day → Day
 mark-day Nowhere d = d
-mark-day (At Home) d = record { home = true; zone = d .zone; elsewhere = d .elsewhere; athome = d .athome; inzone = d .inzone; outside = d .outside }
-mark-day (At Zone) d = record { home = d .home; zone = true; elsewhere = d .elsewhere; athome = d .athome; inzone = d .inzone; outside = d .outside }
-mark-day (At Elsewhere) d = record { home = d .home; zone = d .zone; elsewhere = true; athome = d .athome; inzone = d .inzone; outside = d .outside }
+mark-day (At Home) d = record {
+  home = true;
+  zone = d .zone;
+  elsewhere = d .elsewhere;
+  athome = d .athome;
+  inzone = d .inzone;
+  outside = d .outside;
+}
+mark-day (At Zone) d = record {
+  home = d .home;
+  zone = true;
+  elsewhere = d .elsewhere;
+  athome = d .athome;
+  inzone = d .inzone;
+  outside = d .outside;
+}
+mark-day (At Elsewhere) d = record {
+  home = d .home;
+  zone = d .zone;
+  elsewhere = true;
+  athome = d .athome;
+  inzone = d .inzone;
+  outside = d .outside;
+}
 
 -- "its units by kind and place": units joined to those of the place
 unfoldable pub add-day : Location → Units → Day → Day
 add-day Nowhere u d = d
-add-day (At Home) u d = record { home = d .home; zone = d .zone; elsewhere = d .elsewhere; athome = d .athome ⊕ u; inzone = d .inzone; outside = d .outside }
-add-day (At Zone) u d = record { home = d .home; zone = d .zone; elsewhere = d .elsewhere; athome = d .athome; inzone = d .inzone ⊕ u; outside = d .outside }
-add-day (At Elsewhere) u d = record { home = d .home; zone = d .zone; elsewhere = d .elsewhere; athome = d .athome; inzone = d .inzone; outside = d .outside ⊕ u }
+add-day (At Home) u d = record {
+  home = d .home;
+  zone = d .zone;
+  elsewhere = d .elsewhere;
+  athome = d .athome ⊕ u;
+  inzone = d .inzone;
+  outside = d .outside;
+}
+add-day (At Zone) u d = record {
+  home = d .home;
+  zone = d .zone;
+  elsewhere = d .elsewhere;
+  athome = d .athome;
+  inzone = d .inzone ⊕ u;
+  outside = d .outside;
+}
+add-day (At Elsewhere) u d = record {
+  home = d .home;
+  zone = d .zone;
+  elsewhere = d .elsewhere;
+  athome = d .athome;
+  inzone = d .inzone;
+  outside = d .outside ⊕ u;
+}
 
 -- what keeps these sums within the machine's numbers
 pub record DayAdds (d : Day) (u : Units) : Type 0 where
@@ -49,7 +98,8 @@ pub record DayAdds (d : Day) (u : Units) : Type 0 where
   pub zone-adds : Adds (d .inzone) u
   pub outside-adds : Adds (d .outside) u
 
--- 01, Next day, what a day "counts as": with a mark of home or of elsewhere it is a home day, with a mark of the zone alone a zone day, without marks it is off
+-- 01, Next day, what a day "counts as": with a mark of home or of elsewhere it is a home day, with a mark of the zone
+-- alone a zone day, without marks it is off
 unfoldable pub counts-as : Day → DayKind
 counts-as d = cond (d .home || d .elsewhere) HomeDay (cond (d .zone) ZoneDay OffDay)
 
@@ -77,6 +127,7 @@ on-day d = one-if-on (counts-as d)
 abbrev pub day-units : Day → Units
 day-units d = d .athome ⊕ d .inzone ⊕ d .outside
 
--- 01, Next day: the day that ends becomes the newest of the log, and stands first; of more than 123 days the oldest drops out
+-- 01, Next day: the day that ends becomes the newest of the log, and stands first; of more than 123 days the oldest
+-- drops out
 unfoldable pub joined : Day → List Day → List Day
 joined d ds = take 123 (d ∷ ds)

@@ -1,7 +1,6 @@
--- What the code's own helpers ask and answer: sums held at a ceiling, and sums of a window. Numbers of 01 that recur here (123, 15) are tied to its rules
--- by the contract of `services_next`. Assumes nothing.
+-- What the code's own helpers ask and answer: sums held at a ceiling, and sums of a window. Numbers of 01 that recur
+-- here (123, 15) are tied to its rules by the contract of `services_next`. Assumes nothing.
 use Prim.Native.Nat.{ℕ, zero, suc, _+_, _≤_, min}
-use mathlib.Core.Path.{_≡_}
 use mathlib.Core.List.{List}
 use lib.Dec.{leb}
 use lib.ListN.{getD}
@@ -20,7 +19,8 @@ use Rattle.presence.specs.Service.{state-step}
 
 -- each kind held at 1,000,000,000,001, one more than any lifetime units
 abbrev pub held : Units → Units
-held u = each (min (u .kb) 1000000000001) (min (u .outgoing) 1000000000001) (min (u .incoming) 1000000000001) (min (u .sms) 1000000000001)
+held u = each (min (u .kb) 1000000000001) (min (u .outgoing) 1000000000001) (min (u .incoming) 1000000000001)
+    (min (u .sms) 1000000000001)
 
 -- a day's units, each number held
 abbrev pub held-day : Day → Units
@@ -74,5 +74,6 @@ both-windows n ds = record { long = window-sums (min 123 n) ds; short = window-s
 -- a service's step from the sums of both windows
 abbrev pub stepped-by : Service → ℕ → Windows → ServiceState → ServiceState
 stepped-by s n w state =
-    state-step (leb 123 n) (prevailing (w .long .zonedays) (w .long .ondays) (sums-zone s (w .long)) (sums-other s (w .long)))
+    state-step (leb 123 n)
+    (prevailing (w .long .zonedays) (w .long .ondays) (sums-zone s (w .long)) (sums-other s (w .long)))
     (prevailing (w .short .zonedays) (w .short .ondays) (sums-zone s (w .short)) (sums-other s (w .short))) state

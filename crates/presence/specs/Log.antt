@@ -1,4 +1,5 @@
--- 01, "Account and its calls": the log of the last days as it is kept, and what a sound account's log holds. Assumes nothing.
+-- 01, "Account and its calls": the log of the last days as it is kept, and what a sound account's log holds. Assumes
+-- nothing.
 use Prim.Native.Nat.{ℕ, zero, suc, _+_, _*_, _/_, _%_}
 use mathlib.Core.Bool.{Bool, true, not, cond, _&&_}
 use mathlib.Core.List.{List, [], _∷_, _++_}
@@ -43,8 +44,8 @@ days-first (suc n) xs = day-from xs ∷ days-first n (drop 13 xs)
 unfoldable pub days-of : List ℕ → List Day
 days-of xs = days-first 123 xs
 
--- "today joins the log of the last 123 days (older ones drop)", in the numbers that are kept. Their days are then those of `joined`, and an empty log's are
--- empty days (`LogKeepsDays` in specs/Claims).
+-- "today joins the log of the last 123 days (older ones drop)", in the numbers that are kept. Their days are then those
+-- of `joined`, and an empty log's are empty days (`LogKeepsDays` in specs/Claims).
 unfoldable pub logged-with : Day → List ℕ → List ℕ
 logged-with d xs = take 1599 (numbers-of d ++ xs)
 
@@ -55,7 +56,8 @@ units-over (suc n) ds = day-units (getD ds n empty-day) ⊕ units-over n ds
 
 -- a place of the log that holds no day: no mark, no units
 abbrev pub blank : Day → Bool
-blank d = not (d .home) && not (d .zone) && not (d .elsewhere) && no-units (d .athome) && no-units (d .inzone) && no-units (d .outside)
+blank d = not (d .home) && not (d .zone) && not (d .elsewhere)
+    && no-units (d .athome) && no-units (d .inzone) && no-units (d .outside)
 
 -- no place of these holds a day
 unfoldable pub all-blank : List Day → Bool
@@ -66,14 +68,20 @@ all-blank (d ∷ ds) = blank d && all-blank ds
 abbrev pub lifetime-most : Units
 lifetime-most = each 1000000000000 1000000000000 1000000000000 1000000000000
 
--- the marks of each of the first n days are a number from 0 to 7, so that the numbers are those of the days (`NumbersAreOfDays` in specs/Claims)
+-- the marks of each of the first n days are a number from 0 to 7, so that the numbers are those of the days
+-- (`NumbersAreOfDays` in specs/Claims)
 unfoldable pub marks-proper : ℕ → List ℕ → Bool
 marks-proper zero xs = true
 marks-proper (suc n) xs = leb (getD xs 0 0) 7 && marks-proper n (drop 13 xs)
 
--- "today's units with the log's are at most the lifetime units of their kind"; places past the n logged days hold nothing; marks are proper
+-- "today's units with the log's are at most the lifetime units of their kind"; places past the n logged days hold
+-- nothing; marks are proper
 unfoldable pub log-within : List ℕ → Day → ℕ → Units → Bool
-log-within xs today n lifetime = all (fits (day-units today ⊕ units-over n (days-of xs)) lifetime ∷ all-blank (drop n (days-of xs)) ∷ marks-proper 123 xs ∷ [])
+log-within xs today n lifetime = all
+    (fits (day-units today ⊕ units-over n (days-of xs)) lifetime
+    ∷ all-blank (drop n (days-of xs))
+    ∷ marks-proper 123 xs
+    ∷ [])
 
 -- the numbers of days, one day after the other
 unfoldable pub numbers-all : List Day → List ℕ

@@ -17,8 +17,9 @@ state-step full long short Clear = cond (full && long) (Warned 0) Clear
 state-step full long short (Warned k) = cond (ltb k 14) (Warned (k + 1)) (cond short Surcharged Clear)
 state-step full long short Surcharged = cond long Surcharged Clear
 
--- "Clear becomes Warned if 123 days are logged and prevalent over 123. The 15th day change after that makes it Surcharged if prevalent over 15, else Clear.
--- Surcharged becomes Clear once not prevalent over 123. One step a day." With n days logged, the one just ended among them.
+-- "Clear becomes Warned if 123 days are logged and prevalent over 123. The 15th day change after that makes it
+-- Surcharged if prevalent over 15, else Clear. Surcharged becomes Clear once not prevalent over 123. One step a day."
+-- With n days logged, the one just ended among them.
 unfoldable pub next-state : Service → ℕ → List Day → ServiceState → ServiceState
 next-state s n ds state = state-step (leb 123 n) (prevalent-long s n ds) (prevalent-short s n ds) state
 

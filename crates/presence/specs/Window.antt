@@ -1,4 +1,5 @@
--- 01, "Account and its calls", Next day: the sums over the last days, and when a service is prevalent, with the rule about off days of 02, 1/13. Assumes nothing.
+-- 01, "Account and its calls", Next day: the sums over the last days, and when a service is prevalent, with the rule
+-- about off days of 02, 1/13. Assumes nothing.
 use Prim.Native.Nat.{ℕ, zero, suc, _+_, _*_, min}
 use mathlib.Core.Bool.{Bool, _&&_}
 use mathlib.Core.List.{List}
@@ -22,7 +23,8 @@ other-units DataService d = d .athome .kb + d .outside .kb
 other-units CallService d = d .athome .outgoing + d .outside .outgoing + d .outside .incoming
 other-units SmsService d = d .athome .sms + d .outside .sms
 
--- 01, the sum "over the last w days": that of one day less, and what the day before them adds; the w newest days stand first
+-- 01, the sum "over the last w days": that of one day less, and what the day before them adds; the w newest days stand
+-- first
 unfoldable pub sum-days : (Day → ℕ) → ℕ → List Day → ℕ
 sum-days f zero ds = 0
 sum-days f (suc w) ds = f (getD ds w empty-day) + sum-days f w ds
@@ -31,9 +33,9 @@ sum-days f (suc w) ds = f (getD ds w empty-day) + sum-days f w ds
 abbrev pub prevailing : ℕ → ℕ → ℕ → ℕ → Bool
 prevailing zonedays ondays zone other = ltb ondays (2 * zonedays) && ltb other zone
 
--- 01, "prevalent over w days", or over the n logged days where these are fewer. Off days are among the w days; only the comparison of days leaves them
--- out. Without a day that isn't off nothing is prevalent, and without off days 62 of 123 and 8 of 15 zone days are needed (`OffDaysOnly` and `FullWindows` in
--- specs/Claims).
+-- 01, "prevalent over w days", or over the n logged days where these are fewer. Off days are among the w days; only the
+-- comparison of days leaves them out. Without a day that isn't off nothing is prevalent, and without off days 62 of 123
+-- and 8 of 15 zone days are needed (`OffDaysOnly` and `FullWindows` in specs/Claims).
 unfoldable pub prevalent : Service → ℕ → ℕ → List Day → Bool
 prevalent s w n ds =
     prevailing (sum-days zone-day (min w n) ds) (sum-days on-day (min w n) ds)

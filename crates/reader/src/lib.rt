@@ -60,7 +60,9 @@ pub fn peek<'a>(r: Reader<'a>) -> Step
 
 // The reader's next call, and the reader moved past it; none at the end, where the reader stays.
 pub fn next<'s, 'a>(r: &'s mut Reader<'a>) -> Step
-    ensures { λ s. ⌜ (s ≡ decoded (now (now (r .entry) .section)) (now (r .entry) .at)) × (now (r .exit) .section ≡ now (r .entry) .section) × (now (r .exit) .at ≡ position-after (now (now (r .entry) .section)) (now (r .entry) .at)) ⌝ }
+    ensures { λ s. ⌜ (s ≡ decoded (now (now (r .entry) .section)) (now (r .entry) .at))
+        × (now (r .exit) .section ≡ now (r .entry) .section)
+        × (now (r .exit) .at ≡ position-after (now (now (r .entry) .section)) (now (r .entry) .at)) ⌝ }
 {
     let section = r.section;
     let at = r.at;

@@ -8,7 +8,7 @@ use borrow.Author.Tests.{eq-eqb}
 use Rattle.tariff.specs.declared.Verdict.the-variants.{Refused}
 use Rattle.tariff.specs.Tests.{Reason, verdict-of}
 use Rattle.tariff.specs.Plan.{amount-reasons, plan-reasons, terms-reasons}
-use Rattle.metering.specs.Reasons.{use-reasons, top-up-reasons, next-day-reasons}
+use Rattle.state.specs.Reasons.{use-reasons, top-up-reasons, next-day-reasons}
 use Rattle.account.specs.Calls.{own-reasons, reasons}
 use Rattle.sections.specs.Table.{file-reasons}
 use Rattle.sections.specs.Find.{find-reasons}

@@ -1,4 +1,5 @@
--- 01, "What each operation declines", with 02, 4/13: the numbers that each operation can answer, in the order in which its reasons are looked at. Assumes nothing.
+-- 01, "What each operation declines", with 02, 4/13: the numbers that each operation can answer, in the order in which
+-- its reasons are looked at. Assumes nothing.
 use Prim.Native.Nat.{ℕ}
 use mathlib.Core.Path.{_≡_}
 use mathlib.Core.Bool.{Bool, true, false, _||_}
@@ -37,5 +38,6 @@ pub record ReasonsInOrder : Type 0 where
   pub of-afford : (a : Account) (k : Kind) → numbers (reasons a (Afford k)) ≡ 0 ∷ 3 ∷ []
   pub of-read : (f : List ℕ) → numbers (read-reasons f) ≡ 10 ∷ 11 ∷ 12 ∷ 13 ∷ 14 ∷ 15 ∷ 1 ∷ 17 ∷ 18 ∷ 2 ∷ []
   pub of-find : (f : List ℕ) (k : ℕ) → numbers (find-reasons f k) ≡ 10 ∷ 11 ∷ 12 ∷ 13 ∷ []
-  pub of-write : (p : Plan) (cs ns : List ℕ) (room : ℕ) → numbers (write-reasons p cs ns room) ≡ 1 ∷ 17 ∷ 18 ∷ 2 ∷ 14 ∷ 15 ∷ 16 ∷ []
+  pub of-write : (p : Plan) (cs ns : List ℕ) (room : ℕ)
+      → numbers (write-reasons p cs ns room) ≡ 1 ∷ 17 ∷ 18 ∷ 2 ∷ 14 ∷ 15 ∷ 16 ∷ []
   pub only-these : (rs : List Reason) (n : ℕ) → verdict-of rs ≡ Refused n → among n (numbers rs) ≡ true

@@ -1,42 +1,18 @@
-// One call of any kind, and calls as the trip file codes them, run one after the other. Document 01, "Lists of calls and the book".
+// Calls as the trip file codes them, run one after the other on an account. Document 01, "Lists of calls and the book"
+// and "Trip file".
 use account::Account;
-use account::AffordAnswer;
 use account::Call;
-use account::StateAnswered;
-use metering::Charge;
-use metering::State;
-use metering::StateUsed;
-use metering::UseAnswer;
+use reader::Step;
+use state::Answer;
+use state::State;
 use tariff::Kind;
 use tariff::Place;
-use tariff::Verdict;
 ghost use mathlib.Core.Path.{_≡_};
-ghost use mathlib.Core.Bool.{Bool, true, false};
-ghost use Prim.Native.Nat.{ℕ, _+_, _≤_, _<_, min};
+ghost use Prim.Native.Nat.{_+_, _*_, _≤_, _<_};
 ghost use lib.ListN.{length};
-ghost use Rattle.metering.specs.Reasons.{use-answer};
-ghost use Rattle.account.specs.Calls.{step};
 ghost use Rattle.account.specs.Answers.{account-of};
-ghost use Rattle.replay.specs.Replay.{applied, applied-state, applied-plainly, applied-use, applied-afford, answer-by, from-use, from-afford, count-refused, register-code, other-code, coded, replay-step, replay-of, replayed-of, progress-of};
-
-// What a call answers.
-pub enum Answer {
-    Done,
-    Charged(Charge),
-    UpTo(u64),
-    Declined(u64),
-}
-
-pub struct Applied {
-    pub answer: Answer,
-    pub account: Account,
-}
-
-// What a call answers, with all of the account but its log.
-pub struct StateApplied {
-    pub answer: Answer,
-    pub state: State,
-}
+ghost use Rattle.replay.specs.Replay.{count-refused, register-code, other-code, coded, replay-step, after-step};
+ghost use Rattle.replay.specs.Replay.{run-first, run-section, replayed-of, progress-of};
 
 // What a code and a number stand for.
 pub enum Coded {
@@ -54,94 +30,6 @@ pub struct Replayed {
 pub struct Progress {
     pub state: State,
     pub refused: usize,
-}
-
-fn plain_answer(v: Verdict) -> Answer
-    ensures { λ r. ⌜ r ≡ answer-by v Answer.Done ⌝ }
-{
-    match v {
-        Verdict::Accepted => Answer::Done,
-        Verdict::Refused(n) => Answer::Declined(n),
-    }
-}
-
-fn use_answer(u: UseAnswer) -> Answer
-    ensures { λ r. ⌜ r ≡ from-use u ⌝ }
-{
-    match u {
-        UseAnswer::Charged(c) => Answer::Charged(c),
-        UseAnswer::Declined(n) => Answer::Declined(n),
-    }
-}
-
-fn afford_answer(u: AffordAnswer) -> Answer
-    ensures { λ r. ⌜ r ≡ from-afford u ⌝ }
-{
-    match u {
-        AffordAnswer::UpTo(n) => Answer::UpTo(n),
-        AffordAnswer::Withheld(n) => Answer::Declined(n),
-    }
-}
-
-fn plain_applied(r: StateAnswered) -> StateApplied
-    ensures { λ x. ⌜ x ≡ applied-plainly r ⌝ }
-{
-    let v = r.answer;
-    let next = r.state;
-    StateApplied {
-        answer: plain_answer(v),
-        state: next,
-    }
-}
-
-fn use_applied(r: StateUsed) -> StateApplied
-    ensures { λ x. ⌜ x ≡ applied-use r ⌝ }
-{
-    let u = r.answer;
-    let next = r.state;
-    StateApplied {
-        answer: use_answer(u),
-        state: next,
-    }
-}
-
-fn afford_applied(state: State, u: AffordAnswer) -> StateApplied
-    ensures { λ x. ⌜ x ≡ applied-afford state u ⌝ }
-{
-    StateApplied {
-        answer: afford_answer(u),
-        state: state,
-    }
-}
-
-// One call on all of an account but its log, which is lent: its answer, and all but the log.
-pub fn call_with(state: State, log: &mut [u64; 1599], c: Call) -> StateApplied
-    requires { ⌜ length (now log) ≡ 1599 ⌝ }
-    ensures answer { λ r. ⌜ r ≡ applied-state (applied (account-of state (now (log .entry))) c) ⌝ }
-    ensures shifted { λ _. ⌜ now (log .exit) ≡ step (account-of state (now (log .entry))) c .log ⌝ }
-{
-    match c {
-        Call::Register(p) => plain_applied(account::register_with(state, log, p)),
-        Call::Use(k, n) => use_applied(account::use_with(state, log, k, n)),
-        Call::TopUp(n) => plain_applied(account::top_up_with(state, log, n)),
-        Call::NextDay => plain_applied(account::next_day_with(state, log)),
-        Call::Afford(k) => afford_applied(state, account::afford_with(state, log, k)),
-    }
-}
-
-// One call on an account: its answer, and the account.
-pub fn apply(mut a: Account, c: Call) -> Applied
-    ensures { λ r. ⌜ r ≡ applied a c ⌝ }
-{
-    let state = a.state;
-    let done = call_with(state, &mut a.log, c);
-    let answer = done.answer;
-    let next = done.state;
-    a.state = next;
-    Applied {
-        answer: answer,
-        account: a,
-    }
 }
 
 fn register_coded(n: u32) -> Coded
@@ -217,7 +105,7 @@ fn one_if_refused(x: Answer) -> usize
         Answer::Done => 0,
         Answer::Charged(_) => 0,
         Answer::UpTo(_) => 0,
-        Answer::Declined(_) => 1,
+        Answer::Refused(_) => 1,
     }
 }
 
@@ -230,7 +118,7 @@ pub fn replay_with(t: Progress, log: &mut [u64; 1599], x: Coded) -> Progress
     let state = t.state;
     match x {
         Coded::Known(c) => {
-            let r = call_with(state, log, c);
+            let r = account::call_with(state, log, c);
             let x = r.answer;
             let next = r.state;
             let n = one_if_refused(x);
@@ -246,28 +134,55 @@ pub fn replay_with(t: Progress, log: &mut [u64; 1599], x: Coded) -> Progress
     }
 }
 
-fn lesser(m: usize, n: usize) -> usize
-    ensures { λ r. ⌜ r ≡ min m n ⌝ }
+// One call as the reader hands it out, with the log lent.
+fn take_call(t: Progress, log: &mut [u64; 1599], s: Step) -> Progress
+    requires { ⌜ (length (now log) ≡ 1599) × (t .refused < 18446744073709551615) ⌝ }
+    ensures progress { λ r. ⌜ r ≡ progress-of (after-step (replayed-of t (now (log .entry))) s) ⌝ }
+    ensures shifted { λ _. ⌜ now (log .exit) ≡ after-step (replayed-of t (now (log .entry))) s .account .log ⌝ }
 {
-    if m < n { m } else { n }
+    match s {
+        Step::Call { code, number } => {
+            let x = decode(code, number);
+            replay_with(t, log, x)
+        }
+        Step::End => t,
+    }
 }
 
-// All the calls that codes and numbers stand for, on an account.
-pub fn replay(a: Account, codes: &[u32], numbers: &[u32]) -> Replayed
-    ensures { λ r. ⌜ r ≡ replay-of a (now (codes .entry)) (now (numbers .entry)) ⌝ }
+// The first n calls of a calls section, with the log lent: one reader over the section, moved on at each call.
+fn run_calls<'a, 'l>(
+    section: &'a [u8],
+    n: usize,
+    from: Progress,
+    log: &'l mut [u64; 1599],
+) -> Progress
+    requires { ⌜ (8 * n ≤ length (now section)) × (length (now log) ≡ 1599) × (from .refused ≡ 0) ⌝ }
+    ensures { λ r. ⌜ replayed-of r (now (log .exit))
+        ≡ run-first (account-of (from .state) (now (log .entry))) (now (section .entry)) n ⌝ }
+{
+    let mut r = reader::new(section);
+    let mut t = from;
+    let mut i: usize = 0;
+    while i < n {
+        let s = reader::next(&mut r);
+        t = take_call(t, log, s);
+        i += 1;
+    }
+    t
+}
+
+// All calls of a calls section, on an account: one for each whole eight bytes.
+pub fn replay(section: &[u8], a: Account) -> Replayed
+    ensures { λ r. ⌜ r ≡ run-section a (now (section .entry)) ⌝ }
 {
     let state = a.state;
     let mut log = a.log;
-    let mut t = Progress {
+    let from = Progress {
         state: state,
         refused: 0,
     };
-    let n = lesser(codes.len(), numbers.len());
-    let mut i: usize = 0;
-    while i < n {
-        t = replay_with(t, &mut log, decode(codes[i], numbers[i]));
-        i += 1;
-    }
+    let n = section.len() / 8;
+    let t = run_calls(section, n, from, &mut log);
     let last = t.state;
     let account = Account {
         state: last,

@@ -1,3 +1,2 @@
 pub mod Handing
 pub mod Running
-pub mod Walk

@@ -1,19 +1,13 @@
 // The figures that the program `statement` prints, from the bytes of a trip file. Document 01, "Figures".
 use account::Account;
-use reader::Step;
-use replay::Progress;
 use replay::Replayed;
 use tariff::Allowance;
 use tariff::Plan;
 use tripfile::Read;
 ghost use mathlib.Core.Path.{_≡_};
-ghost use Prim.Native.Nat.{ℕ, _+_, _*_, _≤_, _<_};
-ghost use lib.ListN.{length};
-ghost use Rattle.account.specs.Answers.{account-of};
-ghost use Rattle.replay.specs.Replay.{replayed-of, progress-of};
 ghost use Rattle.tripfile.specs.Reading.{read-of};
 ghost use Rattle.report.specs.Handed.{ReaderHandsOutCalls};
-ghost use Rattle.report.specs.Statement.{figures-of, report-of, run-first, taken, trip-run};
+ghost use Rattle.report.specs.Statement.{figures-of, report-of, trip-run};
 
 // The nine figures.
 pub struct Figures {
@@ -34,81 +28,22 @@ pub enum Report {
     Refused(u64),
 }
 
-// One call as the reader hands it out, with the log lent.
-fn take_call(t: Progress, log: &mut [u64; 1599], s: Step) -> Progress
-    requires { ⌜ (length (now log) ≡ 1599) × (t .refused < 18446744073709551615) ⌝ }
-    ensures progress { λ r. ⌜ r ≡ progress-of (taken (replayed-of t (now (log .entry))) s) ⌝ }
-    ensures shifted { λ _. ⌜ now (log .exit) ≡ taken (replayed-of t (now (log .entry))) s .account .log ⌝ }
-{
-    match s {
-        Step::Call { code, number } => {
-            let x = replay::decode(code, number);
-            replay::replay_with(t, log, x)
-        }
-        Step::End => t,
-    }
-}
-
-// The first n calls of a calls section, with the log lent: one reader over the section, moved on at each call.
-fn run_calls<'a, 'l>(
-    section: &'a [u8],
-    n: usize,
-    from: Progress,
-    log: &'l mut [u64; 1599],
-) -> Progress
-    requires { ⌜ (8 * n ≤ length (now section)) × (length (now log) ≡ 1599) × (from .refused ≡ 0) ⌝ }
-    ensures { λ r. ⌜ replayed-of r (now (log .exit))
-        ≡ run-first (account-of (from .state) (now (log .entry))) (now (section .entry)) n ⌝ }
-{
-    let mut r = reader::new(section);
-    let mut t = from;
-    let mut i: usize = 0;
-    while i < n {
-        let s = reader::next(&mut r);
-        t = take_call(t, log, s);
-        i += 1;
-    }
-    t
-}
-
-// The first n calls of a calls section, on an account.
-pub fn run_section(section: &[u8], n: usize, a: Account) -> Replayed
-    requires { ⌜ 8 * n ≤ length (now section) ⌝ }
-    ensures { λ r. ⌜ r ≡ run-first a (now (section .entry)) n ⌝ }
-{
-    let state = a.state;
-    let mut log = a.log;
-    let from = Progress {
-        state: state,
-        refused: 0,
-    };
-    let t = run_calls(section, n, from, &mut log);
-    let last = t.state;
-    let account = Account {
-        state: last,
-        log: log,
-    };
-    Replayed {
-        account: account,
-        refused: t.refused,
-    }
-}
-
 fn show_figures(t: Replayed) -> Figures
     ensures { λ r. ⌜ r ≡ figures-of t ⌝ }
 {
     let a = t.account;
     let s = a.state;
-    let limit = s.allowance;
-    let surcharged = s.surcharged;
+    let quota = s.quota;
+    let limit = quota.allowance;
+    let surcharged = s.meters.surcharged;
     Figures {
         day: s.day,
-        paid: s.paid,
-        credit: s.credit,
-        home: s.homecharges,
-        extra: s.surcharges,
+        paid: s.money.paid,
+        credit: s.money.credit,
+        home: s.money.homecharges,
+        extra: s.money.surcharges,
         limit: limit,
-        roamed: s.roamed,
+        roamed: s.quota.roamed,
         past: surcharged.kb,
         refused: t.refused,
     }
@@ -126,7 +61,7 @@ pub fn run_trip(file: &[u8], plan: Plan, calls: usize) -> Replayed
 {
     let opened = Account::open(plan);
     let a = opened.account;
-    run_section(sections::part(file, 2), calls, a)
+    replay::replay(sections::part(file, 2), a)
 }
 
 // The figures of a trip file's bytes.

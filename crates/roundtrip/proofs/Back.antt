@@ -2,7 +2,7 @@
 use mathlib.Core.Path.{_≡_, refl, sym, _∙_, ap}
 use mathlib.Core.Bool.{Bool, true, cond, _&&_, not}
 use mathlib.Core.List.{List, [], _∷_, _++_}
-use Prim.Native.Nat.{ℕ, zero, suc, _+_, _*_, _/_, _%_, _≤_, _<_}
+use Prim.Native.Nat.{ℕ, zero, suc, _+_, _*_, _/_, _%_, _≤_}
 use native.Mathlib.Omega.{arith}
 use lib.Dec.{eqb, lit<, lit≤}
 use lib.ListN.{length, getD, take, drop}
@@ -19,7 +19,7 @@ use Rattle.tariff.specs.declared.Verdict.the-variants as Told
 use Rattle.tariff.specs.Tests.{verdict-of, is-accepted}
 use Rattle.tariff.specs.Plan.{form-word, form-of, plan-with, plan-verdict, terms-reasons}
 use Rattle.tariff.proofs.Tests.{and-both}
-use Rattle.tariff.proofs.Plans.{known-form}
+use Rattle.tariff.proofs.PlanLaws.{known-form}
 use Rattle.sections.specs.Table.{file-verdict}
 use Rattle.sections.specs.Find.{just-once, part-of}
 use Rattle.sections.proofs.Verdicts.{then, accepted-is}

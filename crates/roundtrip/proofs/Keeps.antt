@@ -2,25 +2,23 @@
 use mathlib.Core.Path.{_≡_, refl, sym, _∙_, ap, subst}
 use mathlib.Core.Bool.{Bool, true, false}
 use mathlib.Core.List.{List, [], _∷_, _++_}
-use Prim.Native.Nat.{ℕ, zero, suc, _+_, _*_, _/_, _≤_, _<_, _^_}
+use Prim.Native.Nat.{ℕ, zero, suc, _+_, _*_, _/_, _<_}
 use native.Mathlib.Omega.{arith}
 use lib.Dec.{ltb, lit<}
-use lib.ListN.{length, getD, take, drop, length-take, length-drop, List·getD-eq-default}
+use lib.ListN.{length, getD, take, drop, length-take, List·getD-eq-default}
 use borrow.Author.Tests.{ltb-true, ltb-false}
 use Rattle.words.specs.Words.{Bytes}
 use Rattle.words.proofs.Read.{Fit, none, more, fit-at, fit-append, word-fits, part-at}
-use Rattle.tariff.specs.declared.Plan.{Plan}
 use Rattle.sections.specs.Table.{section-count, start-at, length-at}
 use Rattle.sections.specs.Find.{entry-to, part-of}
 use Rattle.sections.proofs.Finding.{found, section-is}
-use Rattle.tripfile.specs.declared.Read.the-variants.{Trip}
 use Rattle.tripfile.specs.declared.Written.the-variants as Wrote
 use Rattle.tripfile.specs.Bodies.{Call, call-at, first-calls, calls-in, codes-of, numbers-of, calls-right, paired}
-use Rattle.tripfile.specs.Reading.{read-of, calls-of}
+use Rattle.tripfile.specs.Reading.{calls-of}
 use Rattle.tripfile.proofs.Listed.{length-codes, length-numbers, paired-again}
 use Rattle.tripfile.proofs.Accepted.{reads}
 use Rattle.tripfile.proofs.Held.{answers, holds}
-use Rattle.roundtrip.specs.Trips.{KeepsTrip, ReadKeepsTrip}
+use Rattle.roundtrip.specs.Trips.{ReadKeepsTrip}
 use Rattle.roundtrip.proofs.Back.{written-reads-back}
 use Rattle.roundtrip.proofs.Again.{calls-accepted, write-accepted, written-is}
 

@@ -1,4 +1,5 @@
--- 01, "Trip file": the two round trips, of the definitions that the contracts of `read`, `write` and `find` cite. Assumes nothing.
+-- 01, "Trip file": the two round trips, of the definitions that the contracts of `read`, `write` and `find` cite.
+-- Assumes nothing.
 use Prim.Native.Nat.{ℕ, _+_, _*_, _≤_}
 use mathlib.Core.Path.{_≡_}
 use mathlib.Core.List.{List, _++_}
@@ -18,7 +19,8 @@ pub record ReadsAs (f : List ℕ) (p : Plan) (cs ns : List ℕ) : Type 0 where
   pub codes : codes-of (calls-of f) ≡ cs
   pub numbers : numbers-of (calls-of f) ≡ ns
 
--- what was written reads back: if writing into any buffer answered n bytes, the buffer's first n bytes read as the same plan and calls
+-- what was written reads back: if writing into any buffer answered n bytes, the buffer's first n bytes read as the same
+-- plan and calls
 abbrev pub WrittenReadsBack : Type 0
 WrittenReadsBack =
     (p : Plan) (cs ns buf : List ℕ) (n : ℕ) → Words cs → Words ns
@@ -36,18 +38,22 @@ pub record WritesAs (p : Plan) (f buf : List ℕ) : Type 0 where
   pub answer : written-of p (codes-of (calls-of f)) (numbers-of (calls-of f)) buf ≡ Wrote.Bytes (length f)
   pub bytes : buffer-of p (codes-of (calls-of f)) (numbers-of (calls-of f)) buf ≡ f ++ drop (length f) buf
 
--- what was read is written again: a file of just plan and calls that reads as plan p, into any buffer that has room for it
+-- what was read is written again: a file of just plan and calls that reads as plan p, into any buffer that has room for
+-- it
 abbrev pub ReadWritesAgain : Type 0
 ReadWritesAgain =
     (f buf : List ℕ) (p : Plan) (n : ℕ) → Bytes f → PlanThenCalls f
     → read-of f ≡ Trip p n → length f ≤ length buf
     → WritesAs p f buf
 
--- plan and calls of a file f, written into a buffer, are accepted, and what then stands there reads as the same plan and calls
+-- plan and calls of a file f, written into a buffer, are accepted, and what then stands there reads as the same plan
+-- and calls
 pub record KeepsTrip (f buf : List ℕ) (p : Plan) (n : ℕ) : Type 0 where
   pub answer : written-of p (codes-of (calls-of f)) (numbers-of (calls-of f)) buf ≡ Wrote.Bytes (64 + 8 * n)
-  pub again : ReadsAs (take (64 + 8 * n) (buffer-of p (codes-of (calls-of f)) (numbers-of (calls-of f)) buf)) p (codes-of (calls-of f)) (numbers-of (calls-of f))
+  pub again : ReadsAs (take (64 + 8 * n) (buffer-of p (codes-of (calls-of f)) (numbers-of (calls-of f)) buf)) p
+      (codes-of (calls-of f)) (numbers-of (calls-of f))
 
 -- of every file that is read, whatever other sections it has and in whatever order
 abbrev pub ReadKeepsTrip : Type 0
-ReadKeepsTrip = (f buf : List ℕ) (p : Plan) (n : ℕ) → Bytes f → read-of f ≡ Trip p n → 64 + 8 * n ≤ length buf → KeepsTrip f buf p n
+ReadKeepsTrip = (f buf : List ℕ) (p : Plan) (n : ℕ) → Bytes f → read-of f ≡ Trip p n → 64 + 8 * n ≤ length buf
+    → KeepsTrip f buf p n

@@ -1,4 +1,5 @@
--- 01, "Trip file": length, sum and table of a file, whose bytes are the list f; and "What each operation declines", 10 to 12. Assumes nothing.
+-- 01, "Trip file": length, sum and table of a file, whose bytes are the list f; and "What each operation declines", 10
+-- to 12. Assumes nothing.
 use Prim.Native.Nat.{ℕ, zero, suc, _+_, _*_, _%_}
 use mathlib.Core.Bool.{Bool, true, _&&_, not}
 use mathlib.Core.List.{List, [], _∷_}
@@ -32,7 +33,8 @@ start-at f i = word f (4 + 3 * i)
 abbrev pub length-at : List ℕ → ℕ → ℕ
 length-at f i = word f (5 + 3 * i)
 
--- "in table order, without gaps, .. first at 12 + 12c": where body i has to start, which is where body i - 1 ends; exact, without wrapping
+-- "in table order, without gaps, .. first at 12 + 12c": where body i has to start, which is where body i - 1 ends;
+-- exact, without wrapping
 unfoldable pub body-start : List ℕ → ℕ → ℕ
 body-start f zero = 12 + 12 * section-count f
 body-start f (suc i) = body-start f i + length-at f i
@@ -42,7 +44,8 @@ unfoldable pub follow-to : List ℕ → ℕ → Bool
 follow-to f zero = true
 follow-to f (suc i) = follow-to f i && eqb (start-at f i) (body-start f i) && eqb (length-at f i % 4) 0
 
--- 12, "count or table breaks a rule": c is 1 to 8, the table fits the file, the bodies follow each other, "last ending the file"
+-- 12, "count or table breaks a rule": c is 1 to 8, the table fits the file, the bodies follow each other, "last ending
+-- the file"
 unfoldable pub table-right : List ℕ → Bool
 table-right f =
     leb 1 (section-count f) && leb (section-count f) 8 && leb (12 + 12 * section-count f) (length f)
@@ -50,7 +53,11 @@ table-right f =
 
 -- "Read: 10 ..; 11 ..; 12 ..", which finding a section shares
 unfoldable pub file-reasons : List ℕ → List Reason
-file-reasons f = because 10 (not (length-right f)) ∷ because 11 (not (sum-right f)) ∷ because 12 (not (table-right f)) ∷ []
+file-reasons f =
+    because 10 (not (length-right f))
+    ∷ because 11 (not (sum-right f))
+    ∷ because 12 (not (table-right f))
+    ∷ []
 
 -- the first of these that holds, or accepted
 unfoldable pub file-verdict : List ℕ → Verdict

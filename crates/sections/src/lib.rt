@@ -5,8 +5,10 @@ ghost use Prim.Native.Nat.{_+_, _*_, _≤_};
 ghost use lib.ListN.{length};
 ghost use lib.Dec.{eqb};
 ghost use Rattle.tariff.specs.Tests.{is-accepted};
-ghost use Rattle.sections.specs.Table.{length-right, sum-right, table-right, follow-to, body-start, section-count, file-verdict};
-ghost use Rattle.sections.specs.Find.{one-if, times-to, entry-to, just-once, part-of, part-start, find-verdict, section-of, section-start};
+ghost use Rattle.sections.specs.Table.{length-right, sum-right, table-right, follow-to, body-start};
+ghost use Rattle.sections.specs.Table.{section-count, file-verdict};
+ghost use Rattle.sections.specs.Find.{one-if, times-to, entry-to, just-once, part-of, part-start, find-verdict};
+ghost use Rattle.sections.specs.Find.{section-of, section-start};
 use tariff::Verdict;
 
 // 10: is the length 12 to 65,536, a multiple of 4 and the first word?
@@ -27,10 +29,12 @@ fn sum_right(file: &[u8]) -> bool
     words::sum(file) == 0
 }
 
-// Do the bodies follow each other in table order without gaps, with lengths that are multiples of 4, the last ending the file?
+// Do the bodies follow each other in table order without gaps, with lengths that are multiples of 4, the last ending
+// the file?
 fn bodies_follow(file: &[u8], count: usize) -> bool
     requires { ⌜ (count ≤ 8) × (12 + 12 * count ≤ length (now file)) × (count ≡ section-count (now file)) ⌝ }
-    ensures { λ r. ⌜ r ≡ (follow-to (now (file .entry)) count && eqb (body-start (now (file .entry)) count) (length (now (file .entry)))) ⌝ }
+    ensures { λ r. ⌜ r ≡ (follow-to (now (file .entry)) count
+        && eqb (body-start (now (file .entry)) count) (length (now (file .entry)))) ⌝ }
 {
     let mut right = true;
     let mut at = 12 + 12 * count;
@@ -128,12 +132,13 @@ pub fn is_once(file: &[u8], kind: u32) -> bool
     times_among(file, kind, count) == 1
 }
 
-// The part of such a file that its one entry of the kind names: the bytes, and where they lie. A reference's `ptr` is the
-// piece of memory that it refers to and the place in it, so the part is the caller's own file.
+// The part of such a file that its one entry of the kind names: the bytes, and where they lie. A reference's `ptr` is
+// the piece of memory that it refers to and the place in it, so the part is the caller's own file.
 pub fn part(file: &[u8], kind: u32) -> &[u8]
     requires { ⌜ (is-accepted (file-verdict (now file)) ≡ true) × (just-once (now file) kind ≡ true) ⌝ }
     ensures bytes { λ r. ⌜ now r ≡ part-of (now (file .entry)) kind ⌝ }
-    ensures place { λ r. ⌜ (r .ptr .0 ≡ file .entry .ptr .0) × (r .ptr .1 ≡ file .entry .ptr .1 + part-start (now (file .entry)) kind) ⌝ }
+    ensures place { λ r. ⌜ (r .ptr .0 ≡ file .entry .ptr .0)
+        × (r .ptr .1 ≡ file .entry .ptr .1 + part-start (now (file .entry)) kind) ⌝ }
 {
     let count = words::word_at(file, 2) as usize;
     let i = entry_among(file, kind, count);
@@ -163,7 +168,8 @@ pub fn find_verdict(file: &[u8], kind: u32) -> Verdict
 // The section of a kind: that part of the file itself, or an empty part where it is declined.
 pub fn find(file: &[u8], kind: u32) -> &[u8]
     ensures bytes { λ r. ⌜ now r ≡ section-of (now (file .entry)) kind ⌝ }
-    ensures place { λ r. ⌜ (r .ptr .0 ≡ file .entry .ptr .0) × (r .ptr .1 ≡ file .entry .ptr .1 + section-start (now (file .entry)) kind) ⌝ }
+    ensures place { λ r. ⌜ (r .ptr .0 ≡ file .entry .ptr .0)
+        × (r .ptr .1 ≡ file .entry .ptr .1 + section-start (now (file .entry)) kind) ⌝ }
 {
     let v = find_verdict(file, kind);
     match v {

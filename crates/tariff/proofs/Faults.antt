@@ -9,7 +9,7 @@ use Rattle.tariff.specs.declared.Verdict.the-variants.{Accepted, Refused
 use Rattle.tariff.specs.Tests.{all, verdict-of, is-accepted}
 use Rattle.tariff.specs.Plan.{unused-empty, prices-in-range, terms-in-range, plan-in-range, start-in-range, amount-reasons, plan-reasons, plan-verdict, plan-with, terms-reasons}
 use Rattle.tariff.specs.Faults.{base-verdict, base-terms-verdict, told-as-1, PlansAsBefore}
-use Rattle.tariff.proofs.Plans.{by-tests, accepted-in-range, known-form}
+use Rattle.tariff.proofs.PlanLaws.{by-tests, accepted-in-range, known-form}
 
 told : (p : Plan) → told-as-1 (plan-verdict p) ≡ base-verdict p
 unfolding base-verdict plan-verdict plan-reasons amount-reasons plan-in-range all verdict-of

@@ -1,7 +1,7 @@
 pub mod Tests
 pub mod Sums
-pub mod Caps
+pub mod CapLaws
 pub mod Tables
-pub mod Plans
+pub mod PlanLaws
 pub mod Faults
-pub mod Charges
+pub mod ChargeLaws

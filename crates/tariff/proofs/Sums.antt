@@ -1,15 +1,15 @@
 -- The algebra of units: sums, products and order, kind by kind. Assumes nothing.
-use Prim.Native.Nat.{ℕ, _+_, _*_, _≤_}
+use Prim.Native.Nat.{ℕ, _+_, _≤_}
 use mathlib.Core.Path.{_≡_, refl}
-use mathlib.Core.Bool.{Bool, true, _&&_}
-use native.Mathlib.Nat.{add-assoc, mul-add, mul-le-mul-right}
+use mathlib.Core.Bool.{true, _&&_}
+use native.Mathlib.Nat.{add-assoc, mul-add}
 use native.Mathlib.Omega.{arith}
 use lib.Dec.{leb}
 use borrow.Author.Tests.{leb-true, le-leb}
 use Rattle.tariff.specs.declared.Units.{Units}
 use Rattle.tariff.specs.declared.Kind.{Kind}
 use Rattle.tariff.specs.declared.Kind.the-variants.{Data, Outgoing, Incoming, Sms}
-use Rattle.tariff.specs.Units.{each, zero-units, _⊕_, _⊗_, only, of-kind, fits, AtMost}
+use Rattle.tariff.specs.Units.{_⊕_, _⊗_, only, of-kind, fits, AtMost}
 use Rattle.tariff.proofs.Tests.{and-left, and-right}
 
 pub ⊕-assoc : (t u v : Units) → t ⊕ u ⊕ v ≡ t ⊕ (u ⊕ v)

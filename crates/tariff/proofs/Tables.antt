@@ -15,7 +15,7 @@ use Rattle.tariff.specs.Tables.{each-row, caps-up-to, days-rise, nothing
 use Rattle.tariff.specs.Claims.{Rising, CapsIn, Right, RightTables}
 use Rattle.tariff.proofs.Tests.{and-left, and-right, all-head, all-tail}
 use Rattle.tariff.proofs.Sums.{fits-tells}
-use Rattle.tariff.proofs.Caps.{rows-tell-days}
+use Rattle.tariff.proofs.CapLaws.{rows-tell-days}
 
 -- what the tests of a right table tell
 caps-in : (m : ℕ) (u : Units) → caps-up-to m u ≡ true → CapsIn m u

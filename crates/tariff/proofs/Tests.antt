@@ -1,12 +1,11 @@
 -- Laws of tests, of lists of tests, and of verdicts. Assumes nothing.
-use mathlib.Core.Path.{_≡_, refl, sym, _∙_}
-use mathlib.Core.Bool.{Bool, true, false, not, cond, _&&_, _||_}
+use mathlib.Core.Path.{_≡_, refl, sym}
+use mathlib.Core.Bool.{Bool, true, false, not, cond, _&&_}
 use mathlib.Core.List.{List, [], _∷_}
-use Prim.Native.Nat.{ℕ, _≤_, _<_}
-use lib.Dec.{leb, ltb, eqb}
-use borrow.Author.Tests.{leb-true, le-leb, eqb-true, eq-eqb, ltb-true, lt-ltb}
-use Rattle.tariff.specs.declared.Verdict.{Verdict}
-use Rattle.tariff.specs.declared.Verdict.the-variants.{Accepted, Refused}
+use Prim.Native.Nat.{ℕ, _≤_}
+use lib.Dec.{leb, eqb}
+use borrow.Author.Tests.{leb-true, le-leb, eqb-true, eq-eqb}
+use Rattle.tariff.specs.declared.Verdict.the-variants.{Refused}
 use Rattle.tariff.specs.Tests.{all, all-from, Reason, verdict-of, is-accepted}
 
 -- two tests are the same where each implies the other

@@ -60,8 +60,8 @@ unfoldable pub caps-from : List Row → Units → ℕ → Units
 caps-from [] found d = found
 caps-from (r ∷ rs) found d = caps-from rs (cond (leb (r .first) d) (r .caps) found) d
 
--- the caps of a day in a table; "The last row runs to day 3833". Before its first row's first day a table gives the first row's caps: no account stands before day 181,
--- nor after day 3833, where the built-in one gives the last row's
+-- the caps of a day in a table; "The last row runs to day 3833". Before its first row's first day a table gives the
+-- first row's caps: no account stands before day 181, nor after day 3833, where the built-in one gives the last row's
 unfoldable pub caps-on : Table → ℕ → Units
 caps-on t d = caps-from (rows-of t) (row-at (t .numbers) 0 .caps) d
 
@@ -69,12 +69,14 @@ caps-on t d = caps-from (rows-of t) (row-at (t .numbers) 0 .caps) d
 abbrev pub has-begun : List ℕ → ℕ → ℕ → Bool
 has-begun xs i d = leb (number xs i 0) d
 
--- 02, 2/13, how many of the first n rows are read from the last one back, up to one that has begun, which counts too; all of them where none has
+-- 02, 2/13, how many of the first n rows are read from the last one back, up to one that has begun, which counts too;
+-- all of them where none has
 unfoldable pub rows-read : List ℕ → ℕ → ℕ → ℕ
 rows-read xs zero d = 0
 rows-read xs (suc i) d = suc (cond (has-begun xs i d) 0 (rows-read xs i d))
 
--- 02, 2/13, what the search from the last row back answers: the caps of the row that was read last, and how many rows were read
+-- 02, 2/13, what the search from the last row back answers: the caps of the row that was read last, and how many rows
+-- were read
 unfoldable pub search-of : Table → ℕ → Found
 search-of t d = record {
   caps = row-at (t .numbers) (t .count - rows-read (t .numbers) (t .count) d) .caps;

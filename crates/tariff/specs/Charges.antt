@@ -1,4 +1,5 @@
--- 01, "Account and its calls", Use: which kB the home price and the surcharge bear on, and what units cost over an account's life. Assumes nothing.
+-- 01, "Account and its calls", Use: which kB the home price and the surcharge bear on, and what units cost over an
+-- account's life. Assumes nothing.
 use Prim.Native.Nat.{ℕ, _+_, _*_, _-_, _/_, _≤_}
 use Rattle.tariff.specs.declared.Units.{Units}
 use Rattle.tariff.specs.declared.Form.{Form}
@@ -11,7 +12,8 @@ use Rattle.tariff.specs.declared.Allowance.the-variants.{NoLimit, Kiloby
 unfoldable pub after-first : ℕ → ℕ → ℕ → ℕ
 after-first l r n = (r + n - l) - (r - l)
 
--- "all prepaid kB, a bundle's kB after the first V of H (none without limit)": kB of n that bear the home price, after h others of the month
+-- "all prepaid kB, a bundle's kB after the first V of H (none without limit)": kB of n that bear the home price, after
+-- h others of the month
 unfoldable pub billed-kb : Form → ℕ → ℕ → ℕ → ℕ
 billed-kb Prepaid v h n = n
 billed-kb Bundle v h n = after-first v h n
@@ -28,7 +30,8 @@ unfoldable pub after-allowance : Allowance → ℕ → ℕ → ℕ
 after-allowance NoLimit r n = 0
 after-allowance (Kilobytes l) r n = after-first l r n
 
--- "Home charges = floor(data price × priced kB / 1,048,576) + floor(minute price × seconds / 60) + SMS price × SMS, over the account's life"
+-- "Home charges = floor(data price × priced kB / 1,048,576) + floor(minute price × seconds / 60) + SMS price × SMS,
+-- over the account's life"
 unfoldable pub home-charges-of : Plan → Units → ℕ
 home-charges-of p u = p .pergb * u .kb / 1048576 + p .perminute * u .outgoing / 60 + p .persms * u .sms
 

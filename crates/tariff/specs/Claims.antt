@@ -14,7 +14,8 @@ use Rattle.tariff.specs.Tables.{each-row, table-right}
 abbrev pub RowsOfTable : Type 0
 RowsOfTable = (rs : List Row) → rows-of (table-of rs) ≡ rs
 
--- 02, 2/13, no day's caps change: in every table and on every day the search from the last row back finds what reading all rows from the first on gives
+-- 02, 2/13, no day's caps change: in every table and on every day the search from the last row back finds what reading
+-- all rows from the first on gives
 abbrev pub SearchFindsCaps : Type 0
 SearchFindsCaps = (t : Table) (d : ℕ) → search-of t d .caps ≡ caps-on t d
 
@@ -22,9 +23,11 @@ SearchFindsCaps = (t : Table) (d : ℕ) → search-of t d .caps ≡ caps-on t d
 abbrev pub Rising : List ℕ → ℕ → Type 0
 Rising xs n = (i : ℕ) → suc i < n → number xs i 0 < number xs (suc i) 0
 
--- 02, 2/13, the rows read on a day when row i has begun and the next one, if there is one, has not: row i and those after it; and on a day before the first row's: all
+-- 02, 2/13, the rows read on a day when row i has begun and the next one, if there is one, has not: row i and those
+-- after it; and on a day before the first row's: all
 pub record RowsReadIn (t : Table) : Type 0 where
-  pub begun : (i d : ℕ) → i < t .count → number (t .numbers) i 0 ≤ d → (suc i < t .count → d < number (t .numbers) (suc i) 0) → search-of t d .read ≡ t .count - i
+  pub begun : (i d : ℕ) → i < t .count → number (t .numbers) i 0 ≤ d
+      → (suc i < t .count → d < number (t .numbers) (suc i) 0) → search-of t d .read ≡ t .count - i
   pub before : (d : ℕ) → d < number (t .numbers) 0 0 → search-of t d .read ≡ t .count
 
 -- so it is in every table whose days rise
@@ -33,7 +36,8 @@ RowsRead = (t : Table) → Rising (t .numbers) (t .count) → RowsReadIn t
 
 -- the caps of a day are those of a row: a test that passes for the caps of every row passes for those of every day
 abbrev pub RowsTellDays : Type 0
-RowsTellDays = (t : Table) (p : Units → Bool) → 1 ≤ t .count → each-row p (t .numbers) (t .count) ≡ true → (d : ℕ) → p (caps-on t d) ≡ true
+RowsTellDays = (t : Table) (p : Units → Bool) → 1 ≤ t .count → each-row p (t .numbers) (t .count) ≡ true
+    → (d : ℕ) → p (caps-on t d) ≡ true
 
 -- each cap is from 1 to m
 pub record CapsIn (m : ℕ) (u : Units) : Type 0 where
@@ -47,7 +51,8 @@ pub record Right (t : Table) : Type 0 where
   pub rises : Rising (t .numbers) (t .count)
   pub caps-on-day : (d : ℕ) → CapsIn 1000000 (caps-on t d)
 
--- each right table tells that; the built-in one is right from day 181 on, and its caps are from 1 to 20,000 on every day
+-- each right table tells that; the built-in one is right from day 181 on, and its caps are from 1 to 20,000 on every
+-- day
 pub record RightTables : Type 0 where
   pub tells : (t : Table) (start : ℕ) → table-right t start ≡ true → Right t
   pub built-in-right : (start : ℕ) → 181 ≤ start → table-right built-in start ≡ true

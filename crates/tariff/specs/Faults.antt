@@ -23,9 +23,11 @@ abbrev pub told-as-1 : Verdict → Verdict
 told-as-1 Accepted = Accepted
 told-as-1 (Refused n) = Refused (cond (eqb n 17 || eqb n 18) 1 n)
 
--- 02, 4/13: the plans accepted are those within 01's ranges, which a sound account's plan keeps; and where 17 and 18 are told as 1, every verdict is 01's
+-- 02, 4/13: the plans accepted are those within 01's ranges, which a sound account's plan keeps; and where 17 and 18
+-- are told as 1, every verdict is 01's
 pub record PlansAsBefore : Type 0 where
   pub accepted : (p : Plan) → is-accepted (plan-verdict p) ≡ plan-in-range p && start-in-range p
-  pub accepted-words : (t : Terms) → is-accepted (verdict-of (terms-reasons t)) ≡ leb (t .form) 2 && (plan-in-range (plan-with t) && start-in-range (plan-with t))
+  pub accepted-words : (t : Terms) → is-accepted (verdict-of (terms-reasons t))
+      ≡ leb (t .form) 2 && (plan-in-range (plan-with t) && start-in-range (plan-with t))
   pub told : (p : Plan) → told-as-1 (plan-verdict p) ≡ base-verdict p
   pub told-words : (t : Terms) → told-as-1 (verdict-of (terms-reasons t)) ≡ base-terms-verdict t

@@ -12,7 +12,7 @@ use Rattle.tariff.specs.declared.Allowance.the-variants.{NoLimit, Kiloby
 use Rattle.tariff.specs.declared.Verdict.{Verdict}
 use Rattle.tariff.specs.declared.Verdict.the-variants.{Accepted, Refused}
 use Rattle.tariff.specs.declared.PlanAnswer.{PlanAnswer}
-use Rattle.tariff.specs.declared.PlanAnswer.the-variants.{Granted, Declined}
+use Rattle.tariff.specs.declared.PlanAnswer.the-variants.{Granted}
 use Rattle.tariff.specs.Tests.{all, between, Reason, because, verdict-of}
 
 -- 01, "Plan", names three forms: prepaid, a bundle that includes V kB, and one without volume limit. Is it the first?
@@ -25,7 +25,8 @@ is-prepaid Unlimited = false
 unfoldable pub prices-in-range : Plan → Bool
 prices-in-range p = leb (p .pergb) 1000000 && leb (p .perminute) 1000000 && leb (p .persms) 1000000
 
--- 01, "Plan": the fee of both sorts of bundles is at most 10,000,000 points, and V is from 1 to 1,073,741,824 where there is one; 02, 4/13 gives 18 where not
+-- 01, "Plan": the fee of both sorts of bundles is at most 10,000,000 points, and V is from 1 to 1,073,741,824 where
+-- there is one; 02, 4/13 gives 18 where not
 unfoldable pub terms-in-range : Form → Plan → Bool
 terms-in-range Prepaid p = true
 terms-in-range Bundle p = leb (p .fee) 10000000 && between 1 (p .volume) 1073741824
@@ -35,7 +36,8 @@ terms-in-range Unlimited p = leb (p .fee) 10000000
 abbrev pub start-in-range : Plan → Bool
 start-in-range p = between 181 (p .start) 3833
 
--- 01, "Plan", on unused fields: a prepaid plan has neither fee nor V, an unlimited one neither data price nor V; 02, 4/13 gives 1 where such a field is not 0
+-- 01, "Plan", on unused fields: a prepaid plan has neither fee nor V, an unlimited one neither data price nor V; 02,
+-- 4/13 gives 1 where such a field is not 0
 unfoldable pub unused-empty : Form → Plan → Bool
 unused-empty Prepaid p = eqb (p .fee) 0 && eqb (p .volume) 0
 unused-empty Bundle p = true
@@ -51,7 +53,8 @@ open-bundle Prepaid fee cap volume = false
 open-bundle Bundle fee cap volume = ltb (fee * 1048576) (cap * volume)
 open-bundle Unlimited fee cap volume = true
 
--- L at opening and, of a bundle, on each month's first day: 0 for a prepaid plan (so is R, in `opened-state`); twice what the fee buys at the cap for an open bundle; none for another
+-- L at opening and, of a bundle, on each month's first day: 0 for a prepaid plan (so is R, in `opened-state`); twice
+-- what the fee buys at the cap for an open bundle; none for another
 unfoldable pub plan-allowance : Plan → ℕ → Allowance
 plan-allowance p cap =
     cond (is-prepaid (p .form)) (Kilobytes 0)
@@ -101,12 +104,13 @@ plan-with t = record {
 
 -- 02, 4/13: 1 also for an unknown form; then the amounts
 unfoldable pub terms-reasons : Terms → List Reason
-terms-reasons t = because 1 (ltb 2 (t .form) || not (unused-empty (form-of (t .form)) (plan-with t))) ∷ amount-reasons (plan-with t)
+terms-reasons t = because 1 (ltb 2 (t .form) || not (unused-empty (form-of (t .form)) (plan-with t)))
+    ∷ amount-reasons (plan-with t)
 
 -- the plan, or the number that declines it
 abbrev pub plan-answer : Verdict → Plan → PlanAnswer
 plan-answer Accepted p = Granted p
-plan-answer (Refused n) p = Declined n
+plan-answer (Refused n) p = PlanAnswer.Refused n
 
 -- what a plan body's words answer: refusals 1, 17, 18, 2, or the plan
 unfoldable pub plan-of : Terms → PlanAnswer

@@ -1,4 +1,5 @@
--- The rules that a table of caps keeps, as tests: those of 02, 10/13, for caps and days. The built-in table keeps them. Assumes nothing.
+-- The rules that a table of caps keeps, as tests: those of 02, 10/13, for caps and days. The built-in table keeps them.
+-- Assumes nothing.
 use Prim.Native.Nat.{ℕ, zero, suc, _+_, _*_, _-_, min}
 use mathlib.Core.Bool.{Bool, true, _&&_}
 use mathlib.Core.List.{List, [], _∷_}
@@ -30,8 +31,8 @@ unfoldable pub nothing-from : List ℕ → ℕ → ℕ → Bool
 nothing-from xs i zero = true
 nothing-from xs i (suc n) = nothing-from xs i n && eqb (getD xs (i + n) 0) 0
 
--- a table is right for a plan's start day: 1 to 8 rows, the first no later than that day, days that rise, caps from 1 to 1,000,000, and 0 in the places past the rows, so
--- that its rows are all that it holds
+-- a table is right for a plan's start day: 1 to 8 rows, the first no later than that day, days that rise, caps from 1
+-- to 1,000,000, and 0 in the places past the rows, so that its rows are all that it holds
 unfoldable pub table-right : Table → ℕ → Bool
 table-right t start =
     let n : ℕ = min 8 (t .count) in

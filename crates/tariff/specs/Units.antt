@@ -39,7 +39,8 @@ of-kind Sms u = u .sms
 
 -- u is at most v in each kind, as a test
 abbrev pub fits : Units → Units → Bool
-fits u v = leb (u .kb) (v .kb) && leb (u .outgoing) (v .outgoing) && leb (u .incoming) (v .incoming) && leb (u .sms) (v .sms)
+fits u v = leb (u .kb) (v .kb) && leb (u .outgoing) (v .outgoing) && leb (u .incoming) (v .incoming)
+    && leb (u .sms) (v .sms)
 
 -- no units of any kind, as a test
 abbrev pub no-units : Units → Bool

@@ -1,4 +1,5 @@
-// Claims about tables of caps and the search in them, stated in specs/Claims.antt, and about the faults of a plan, in specs/Faults.antt.
+// Claims about tables of caps and the search in them, stated in specs/Claims.antt, and about the faults of a plan, in
+// specs/Faults.antt.
 ghost use Rattle.tariff.specs.Claims.{RowsOfTable, SearchFindsCaps, RowsRead, RowsTellDays, RightTables};
 ghost use Rattle.tariff.specs.Faults.{PlansAsBefore};
 

@@ -10,13 +10,14 @@ use borrow.Author.Tests.{leb-true, ltb-false, eqb-true, eqb-false}
 use Rattle.words.specs.Words.{word}
 use Rattle.tariff.specs.declared.Plan.{Plan}
 use Rattle.tariff.specs.declared.Terms.{Terms}
-use Rattle.tariff.specs.declared.PlanAnswer.the-variants.{Granted, Declined}
+use Rattle.tariff.specs.declared.PlanAnswer.{PlanAnswer}
+use Rattle.tariff.specs.declared.PlanAnswer.the-variants.{Granted}
 use Rattle.tariff.specs.declared.Verdict.{Verdict}
 use Rattle.tariff.specs.declared.Verdict.the-variants.{Accepted, Refused}
 use Rattle.tariff.specs.Tests.{because, verdict-of, is-accepted}
 use Rattle.tariff.specs.Plan.{plan-reasons, plan-verdict, plan-with, terms-reasons, plan-answer, plan-of}
 use Rattle.tariff.proofs.Tests.{and-left, and-right, first-fails, rest-accepts, not-false}
-use Rattle.tariff.proofs.Plans.{plan-ranged, opens-tells, known-form, form-known}
+use Rattle.tariff.proofs.PlanLaws.{plan-ranged, opens-tells, known-form, form-known}
 use Rattle.sections.specs.Table.{file-reasons, file-verdict}
 use Rattle.sections.specs.Find.{just-once, part-of}
 use Rattle.sections.proofs.Verdicts.{then, verdict-append, then-both, and-three}
@@ -144,10 +145,10 @@ granted t p n h = go (verdict-of (terms-reasons t)) h
     go Accepted e = cc
     go (Refused r) e = cc
 
-pub declined : (t : Terms) (r n : ℕ) → plan-of t ≡ Declined r → Answer.Refused r ≡ read-answer (verdict-of (terms-reasons t)) (plan-with t) n
+pub declined : (t : Terms) (r n : ℕ) → plan-of t ≡ PlanAnswer.Refused r → Answer.Refused r ≡ read-answer (verdict-of (terms-reasons t)) (plan-with t) n
 unfolding plan-of
 declined t r n h = go (verdict-of (terms-reasons t)) h
   where
-    go : (v : Verdict) → plan-answer v (plan-with t) ≡ Declined r → Answer.Refused r ≡ read-answer v (plan-with t) n
+    go : (v : Verdict) → plan-answer v (plan-with t) ≡ PlanAnswer.Refused r → Answer.Refused r ≡ read-answer v (plan-with t) n
     go Accepted e = cc
     go (Refused s) e = cc

@@ -78,9 +78,11 @@ unfoldable pub numbers-of : List Call → List ℕ
 numbers-of [] = []
 numbers-of (c ∷ cs) = c .number ∷ numbers-of cs
 
--- 15, "a code outside 1 to 7, a register number above 2 or a next-day number that isn't 0": none of these holds of the call
+-- 15, "a code outside 1 to 7, a register number above 2 or a next-day number that isn't 0": none of these holds of the
+-- call
 unfoldable pub call-right : Call → Bool
-call-right c = between 1 (c .code) 7 && not (eqb (c .code) 1 && ltb 2 (c .number)) && not (eqb (c .code) 7 && not (eqb (c .number) 0))
+call-right c = between 1 (c .code) 7 && not (eqb (c .code) 1 && ltb 2 (c .number))
+    && not (eqb (c .code) 7 && not (eqb (c .number) 0))
 
 -- it holds of no call of a list
 unfoldable pub calls-right : List Call → Bool

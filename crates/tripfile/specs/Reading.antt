@@ -19,7 +19,8 @@ use Rattle.tripfile.specs.Bodies.{Call, terms-in, calls-in, calls-right}
 abbrev pub calls-body-right : List ℕ → Bool
 calls-body-right b = not (eqb (length b) 0) && eqb (length b % 8) 0
 
--- of the plan body and the calls body: 14 their sizes; 15 the calls; then the reasons of the plan's words, 1, 17, 18, 2 (02, 4/13)
+-- of the plan body and the calls body: 14 their sizes; 15 the calls; then the reasons of the plan's words, 1, 17, 18, 2
+-- (02, 4/13)
 unfoldable pub body-reasons : List ℕ → List ℕ → List Reason
 body-reasons p c =
     because 14 (not (eqb (length p) 28 && calls-body-right c))
@@ -28,7 +29,8 @@ body-reasons p c =
 
 -- Read: 10, 11 and 12 of the whole file; 13 unless plan and calls are there once each; then those of the bodies
 unfoldable pub read-reasons : List ℕ → List Reason
-read-reasons f = file-reasons f ++ (because 13 (not (just-once f 1 && just-once f 2)) ∷ body-reasons (part-of f 1) (part-of f 2))
+read-reasons f = file-reasons f
+    ++ (because 13 (not (just-once f 1 && just-once f 2)) ∷ body-reasons (part-of f 1) (part-of f 2))
 
 -- the first of these that holds, or accepted
 unfoldable pub read-verdict : List ℕ → Verdict

@@ -1,4 +1,5 @@
--- 01, "Trip file" and "What each operation declines", Write: the file that is written, and what stands in the buffer. Assumes nothing.
+-- 01, "Trip file" and "What each operation declines", Write: the file that is written, and what stands in the buffer.
+-- Assumes nothing.
 use Prim.Native.Nat.{ℕ, _+_, _*_, _≤_}
 use mathlib.Core.Path.{_≡_}
 use mathlib.Core.Bool.{Bool, _&&_, not}
@@ -25,7 +26,8 @@ later-words p cs = 2 ∷ 1 ∷ 36 ∷ 28 ∷ 2 ∷ 64 ∷ 8 * length cs ∷ (pla
 
 -- the file: its length, the word that makes the sum 0, and the others
 unfoldable pub file-words : Plan → List Call → List ℕ
-file-words p cs = file-size (length cs) ∷ closing-word (file-size (length cs) + total (later-words p cs)) ∷ later-words p cs
+file-words p cs = file-size (length cs) ∷ closing-word (file-size (length cs) + total (later-words p cs))
+    ∷ later-words p cs
 
 -- its bytes
 abbrev pub file-of : Plan → List Call → List ℕ
@@ -74,4 +76,5 @@ filled-or-kept (Told.Refused r) filled kept = kept
 
 -- what stands in the buffer then: the file, and "bytes after the file stay"
 unfoldable pub buffer-of : Plan → List ℕ → List ℕ → List ℕ → List ℕ
-buffer-of p cs ns buf = filled-or-kept (write-verdict p cs ns (length buf)) (file-of p (paired cs ns) ++ drop (file-size (length cs)) buf) buf
+buffer-of p cs ns buf = filled-or-kept (write-verdict p cs ns (length buf))
+    (file-of p (paired cs ns) ++ drop (file-size (length cs)) buf) buf

@@ -53,7 +53,8 @@ fn body_right(body: &[u8]) -> bool
 
 // The answer on the two bodies: 14, 15, then 1, 17, 18, 2.
 fn read_bodies(plan: &[u8], calls: &[u8]) -> Read
-    ensures { λ r. ⌜ r ≡ read-answer (verdict-of (body-reasons (now (plan .entry)) (now (calls .entry)))) (plan-with (terms-in (now (plan .entry)))) (length (now (calls .entry)) / 8) ⌝ }
+    ensures { λ r. ⌜ r ≡ read-answer (verdict-of (body-reasons (now (plan .entry)) (now (calls .entry))))
+        (plan-with (terms-in (now (plan .entry)))) (length (now (calls .entry)) / 8) ⌝ }
 {
     let n = calls.len();
     if !((plan.len() == 28) & (!(n == 0) & (n % 8 == 0))) {
@@ -62,13 +63,13 @@ fn read_bodies(plan: &[u8], calls: &[u8]) -> Read
     if !body_right(calls) {
         return Read::Refused(15);
     }
-    let answer = tariff::plan_from(terms_of(plan));
+    let answer = tariff::plans::plan_from(terms_of(plan));
     match answer {
         PlanAnswer::Granted(p) => Read::Trip {
             plan: p,
             calls: n / 8,
         },
-        PlanAnswer::Declined(reason) => Read::Refused(reason),
+        PlanAnswer::Refused(reason) => Read::Refused(reason),
     }
 }
 

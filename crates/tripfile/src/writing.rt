@@ -7,7 +7,8 @@ ghost use Rattle.words.specs.Words.{bytes-of};
 ghost use Rattle.tariff.specs.Plan.{form-word};
 ghost use Rattle.tariff.specs.Tests.{verdict-of};
 ghost use Rattle.tripfile.specs.Bodies.{plan-words, call-words, paired, calls-right, PlanFits};
-ghost use Rattle.tripfile.specs.Writing.{file-size, file-of, calls-reasons, write-verdict, written-of, buffer-of, Ready};
+ghost use Rattle.tripfile.specs.Writing.{file-size, file-of, calls-reasons, write-verdict, written-of, buffer-of};
+ghost use Rattle.tripfile.specs.Writing.{Ready};
 use super::Written;
 use super::calls;
 use tariff::Form;
@@ -76,7 +77,7 @@ fn calls_verdict(codes: &[u32], numbers: &[u32], room: usize) -> Verdict
 fn verdict_on(plan: Plan, codes: &[u32], numbers: &[u32], room: usize) -> Verdict
     ensures { λ r. ⌜ r ≡ write-verdict plan (now (codes .entry)) (now (numbers .entry)) room ⌝ }
 {
-    let v = tariff::check_plan(plan);
+    let v = tariff::plans::check_plan(plan);
     match v {
         Verdict::Refused(n) => Verdict::Refused(n),
         Verdict::Accepted => calls_verdict(codes, numbers, room),
@@ -86,7 +87,9 @@ fn verdict_on(plan: Plan, codes: &[u32], numbers: &[u32], room: usize) -> Verdic
 // Writes the calls body from the start of a part on.
 fn put_calls(s: &mut [u8], codes: &[u32], numbers: &[u32])
     requires { ⌜ (8 * length (now codes) ≤ length (now s)) × (length (now numbers) ≡ length (now codes)) ⌝ }
-    ensures { λ _. ⌜ now (s .exit) ≡ bytes-of (call-words (paired (now (codes .entry)) (now (numbers .entry)))) ++ drop (8 * length (now (codes .entry))) (now (s .entry)) ⌝ }
+    ensures { λ _. ⌜ now (s .exit)
+        ≡ bytes-of (call-words (paired (now (codes .entry)) (now (numbers .entry)))) ++ drop
+        (8 * length (now (codes .entry))) (now (s .entry)) ⌝ }
 {
     let mut i = 0;
     while i < codes.len() {
@@ -99,7 +102,9 @@ fn put_calls(s: &mut [u8], codes: &[u32], numbers: &[u32])
 // Writes the whole file, each body into the buffer from its start on, and last the word that makes the sum 0.
 fn fill(plan: Plan, codes: &[u32], numbers: &[u32], buf: &mut [u8])
     requires { ⌜ Ready plan (now codes) (now numbers) (length (now buf)) ⌝ }
-    ensures { λ _. ⌜ now (buf .exit) ≡ file-of plan (paired (now (codes .entry)) (now (numbers .entry))) ++ drop (file-size (length (now (codes .entry)))) (now (buf .entry)) ⌝ }
+    ensures { λ _. ⌜ now (buf .exit)
+        ≡ file-of plan (paired (now (codes .entry)) (now (numbers .entry))) ++ drop
+        (file-size (length (now (codes .entry)))) (now (buf .entry)) ⌝ }
 {
     let n = codes.len();
     let size = 64 + 8 * n;
@@ -112,10 +117,12 @@ fn fill(plan: Plan, codes: &[u32], numbers: &[u32], buf: &mut [u8])
     words::put_word(buf, 1, words::solve(rest));
 }
 
-// The file of a plan and its calls into the buffer, or the number that declines it, with every byte as it was: 1, 17, 18, 2, 14, 15, 16.
+// The file of a plan and its calls into the buffer, or the number that declines it, with every byte as it was: 1, 17,
+// 18, 2, 14, 15, 16.
 pub fn write(plan: Plan, codes: &[u32], numbers: &[u32], buf: &mut [u8]) -> Written
     ensures answer { λ r. ⌜ r ≡ written-of plan (now (codes .entry)) (now (numbers .entry)) (now (buf .entry)) ⌝ }
-    ensures buffer { λ _. ⌜ now (buf .exit) ≡ buffer-of plan (now (codes .entry)) (now (numbers .entry)) (now (buf .entry)) ⌝ }
+    ensures buffer { λ _.
+        ⌜ now (buf .exit) ≡ buffer-of plan (now (codes .entry)) (now (numbers .entry)) (now (buf .entry)) ⌝ }
 {
     let v = verdict_on(plan, codes, numbers, buf.len());
     match v {

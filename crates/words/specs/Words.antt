@@ -5,7 +5,8 @@ use lib.ListN.{length, getD, take, drop}
 
 -- "Little-endian u32 words": word number i is the bytes 4 i to 4 i + 3, the lowest first
 abbrev pub word : List ℕ → ℕ → ℕ
-word s i = getD s (4 * i) 0 + 256 * getD s (4 * i + 1) 0 + 65536 * getD s (4 * i + 2) 0 + 16777216 * getD s (4 * i + 3) 0
+word s i = getD s (4 * i) 0 + 256 * getD s (4 * i + 1) 0 + 65536 * getD s (4 * i + 2) 0 + 16777216 * getD s
+    (4 * i + 3) 0
 
 -- the four bytes of a word, the lowest first
 abbrev pub word-bytes : ℕ → List ℕ

@@ -46,7 +46,8 @@ pub fn put_word(s: &mut [u8], i: usize, w: u32)
 // Writes words from the start of a part on; its bytes after them stay.
 pub fn put_words(s: &mut [u8], ws: &[u32])
     requires { ⌜ 4 * length (now ws) ≤ length (now s) ⌝ }
-    ensures { λ _. ⌜ now (s .exit) ≡ bytes-of (now (ws .entry)) ++ drop (4 * length (now (ws .entry))) (now (s .entry)) ⌝ }
+    ensures { λ _. ⌜ now (s .exit)
+        ≡ bytes-of (now (ws .entry)) ++ drop (4 * length (now (ws .entry))) (now (s .entry)) ⌝ }
 {
     let mut i = 0;
     while i < ws.len() {

@@ -4,15 +4,9 @@ use borrow.Author.Needs.{needs}
 use Rattle.account.proofs.opened_account.Statement.{statement}
 use Rattle.account.proofs.opened_account.Tie as tie
 
-opened-with-requires : tie.Need-opened-with-requires
-opened-with-requires c κs = search needs
-
-log-empty-requires : tie.Need-log-empty-requires
-log-empty-requires c κs = search needs
-
 returns : tie.Need-returns
 unfolding opened
 returns c = simp (c .log-empty .ensures, c .before .opened-with .ensures)
 
 pub opened-account-spec : {M : Type 1} → statement M
-opened-account-spec = tie.close (tie.spec opened-with-requires log-empty-requires returns)
+opened-account-spec = tie.close (tie.spec (λ c κs. search needs) (λ c κs. search needs) returns)

@@ -1,9 +1,9 @@
 -- `account::top_up_with` meets its contract. Assumes nothing.
 use Rattle.tariff.specs.Tests.{between}
-use Rattle.metering.proofs.Verdicts.{few}
+use Rattle.state.proofs.Verdicts.{few}
 use Rattle.account.proofs.Parts.{credit-most, paid-most}
 use Rattle.account.proofs.Returns.{unsound, topped-7, topped-8, topped-yes}
-use Rattle.account.specs.Answers.{account-of, answered-state}
+use Rattle.account.specs.Answers.{account-of, applied-state}
 use Rattle.account.specs.declared.Call.the-variants.{TopUp}
 use native.Mathlib.Omega.{arith}
 use Rattle.account.specs.Whole.{sound}
@@ -20,19 +20,13 @@ sound-here c = sym (c .before .parts-fit .ensures) ∙ not-false (c .before .par
 in-range : (c : tie.Else2) → between 1 (c .before .before .before .before .args .n) 10000000 ≡ true
 in-range c = sym (c .before .within .ensures) ∙ not-false (c .before .within .result) (c .if2 .left)
 
-parts-fit-requires : tie.Need-parts-fit-requires
-parts-fit-requires c κs = search needs
-
 returns : tie.Need-returns
 returns c = let a = c .before .before .args in
-    ap answered-state (unsound (account-of (a .state) (a .log .now)) (TopUp (a .n)) (sym (c .before .parts-fit .ensures) ∙ not-true (c .before .parts-fit .result) (c .if1 .taken)))
-
-within-requires : tie.Need-within-requires
-within-requires c κs = search needs
+    ap applied-state (unsound (account-of (a .state) (a .log .now)) (TopUp (a .n)) (sym (c .before .parts-fit .ensures) ∙ not-true (c .before .parts-fit .result) (c .if1 .taken)))
 
 returns-2 : tie.Need-returns-2
 returns-2 c = let a = c .before .before .before .before .args in
-    ap answered-state (topped-7 (account-of (a .state) (a .log .now)) (sound-here (c .before .before)) (a .n) (sym (c .before .within .ensures) ∙ not-true (c .before .within .result) (c .if2 .taken)))
+    ap applied-state (topped-7 (account-of (a .state) (a .log .now)) (sound-here (c .before .before)) (a .n) (sym (c .before .within .ensures) ∙ not-true (c .before .within .result) (c .if2 .taken)))
 
 add-if3 : tie.Need-add-if3
 add-if3 c = let a = c .before .before .before .before .before .args in
@@ -40,7 +34,7 @@ add-if3 c = let a = c .before .before .before .before .before .args in
 
 returns-3 : tie.Need-returns-3
 returns-3 c = let a = c .before .before .before .before .before .before .args in
-    ap answered-state (topped-8 (account-of (a .state) (a .log .now)) (sound-here (c .before .before .before .before)) (a .n) (in-range (c .before .before)) (omega (arith, c .if3 .taken)))
+    ap applied-state (topped-8 (account-of (a .state) (a .log .now)) (sound-here (c .before .before .before .before)) (a .n) (in-range (c .before .before)) (omega (arith, c .if3 .taken)))
 
 topped-by-requires : tie.Need-topped-by-requires
 topped-by-requires c κs = let a = c .before .before .before .before .before .before .args in
@@ -49,15 +43,15 @@ topped-by-requires c κs = let a = c .before .before .before .before .before .be
 
 returns-4 : tie.Need-returns-4
 returns-4 c = let a = c .before .before .before .before .before .before .before .args in
-    simp (c .topped-by .ensures) (ap answered-state (topped-yes (account-of (a .state) (a .log .now)) (sound-here (c .before .before .before .before .before)) (a .n) (in-range (c .before .before .before)) (omega (arith, c .before .if3 .left))))
+    simp (c .topped-by .ensures) (ap applied-state (topped-yes (account-of (a .state) (a .log .now)) (sound-here (c .before .before .before .before .before)) (a .n) (in-range (c .before .before .before)) (omega (arith, c .before .if3 .left))))
 
 pub top-up-with-spec : {M : Type 1} → statement M
 top-up-with-spec =
     tie.close
     (tie.spec
-    parts-fit-requires
+    (λ c κs. search needs)
     returns
-    within-requires
+    (λ c κs. search needs)
     returns-2
     add-if3
     returns-3

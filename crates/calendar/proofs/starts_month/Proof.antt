@@ -15,20 +15,11 @@ abbrev μ-loop : tie.MeasureT-loop
 loop-holds : tie.Need-loop-holds Inv-loop μ-loop
 loop-holds c = passed-first (c .args .day) _ (omega arith)
 
-month-start-requires : tie.Need-month-start-requires Inv-loop μ-loop
-month-start-requires c κs = omega arith
-
 returns : tie.Need-returns Inv-loop μ-loop
 returns c =
     let at = c .before .before .before in
     rw (c .before .month-start .ensures)
     (decided (at .before .args .day) (at .loop .month) (omega arith) (at .loop .inv) (omega (arith, c .before .month-start .ensures)))
-
-add-month : tie.Need-add-month Inv-loop μ-loop
-add-month c = omega arith
-
-loop-less : tie.Need-loop-less Inv-loop μ-loop
-loop-less c = omega arith
 
 loop-again : tie.Need-loop-again Inv-loop μ-loop
 loop-again c =
@@ -45,9 +36,9 @@ starts-month-spec =
     Inv-loop
     μ-loop
     loop-holds
-    month-start-requires
+    (λ c κs. omega arith)
     returns
-    add-month
-    loop-less
+    (λ c. omega arith)
+    (λ c. omega arith)
     loop-again
     returns-2)

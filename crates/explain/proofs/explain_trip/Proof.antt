@@ -11,18 +11,6 @@ Inv-loop section calls a₀ at₀ i₀ a at i = i ≤ calls
 abbrev μ-loop : tie.MeasureT-loop
 μ-loop section calls a₀ at₀ i₀ a at i = calls - i
 
-loop-holds : tie.Need-loop-holds Inv-loop μ-loop
-loop-holds c = search needs
-
-add-i : tie.Need-add-i Inv-loop μ-loop
-add-i c = omega arith
-
-loop-less : tie.Need-loop-less Inv-loop μ-loop
-loop-less c = omega arith
-
-loop-again : tie.Need-loop-again Inv-loop μ-loop
-loop-again c = omega arith
-
 pub explain-trip-spec : {M : Type 1} → statement M
 explain-trip-spec =
     tie.close
@@ -33,11 +21,11 @@ explain-trip-spec =
     (λ c. search needs)
     (λ c κs. tt)
     (λ c κs. tt)
-    loop-holds
+    (λ c. search needs)
     (λ c κs. tt)
     (λ c κs. tt)
-    add-i
+    (λ c. omega arith)
     (λ c κs. tt)
-    loop-less
-    loop-again
+    (λ c. omega arith)
+    (λ c. omega arith)
     (λ c. tt))

@@ -6,30 +6,6 @@ use Rattle.printout.proofs.Printing.{put-next}
 use Rattle.printout.proofs.put_data.Statement.{statement}
 use Rattle.printout.proofs.put_data.Tie as tie
 
-put-limit-requires : tie.Need-put-limit-requires
-put-limit-requires c κs = omega arith
-
-slice-aggregate-put-line : tie.Need-slice-aggregate-put-line
-slice-aggregate-put-line c = refl
-
-put-line-requires : tie.Need-put-line-requires
-put-line-requires c κs = omega arith
-
-slice-aggregate-put-line-2 : tie.Need-slice-aggregate-put-line-2
-slice-aggregate-put-line-2 c = refl
-
-put-line-requires-2 : tie.Need-put-line-requires-2
-put-line-requires-2 c κs = omega arith
-
-slice-aggregate-put-line-3 : tie.Need-slice-aggregate-put-line-3
-slice-aggregate-put-line-3 c = refl
-
-put-line-requires-3 : tie.Need-put-line-requires-3
-put-line-requires-3 c κs = omega arith
-
-same-length : tie.Need-same-length
-same-length c = omega arith
-
 returns : tie.Need-returns
 unfolding data-lines
 returns c =
@@ -46,12 +22,12 @@ pub put-data-spec : {M : Type 1} → statement M
 put-data-spec =
     tie.close
     (tie.spec
-    put-limit-requires
-    slice-aggregate-put-line
-    put-line-requires
-    slice-aggregate-put-line-2
-    put-line-requires-2
-    slice-aggregate-put-line-3
-    put-line-requires-3
-    same-length
+    (λ c κs. omega arith)
+    (λ c. refl)
+    (λ c κs. omega arith)
+    (λ c. refl)
+    (λ c κs. omega arith)
+    (λ c. refl)
+    (λ c κs. omega arith)
+    (λ c. omega arith)
     returns)

@@ -6,20 +6,11 @@ use Rattle.printout.proofs.Printing.{put-next}
 use Rattle.printout.proofs.put_line.Statement.{statement}
 use Rattle.printout.proofs.put_line.Tie as tie
 
-put-bytes-requires : tie.Need-put-bytes-requires
-put-bytes-requires c κs = omega arith
-
 put-decimal-requires : tie.Need-put-decimal-requires
 put-decimal-requires c κs = omega (arith, u64-digits (c .before .before .before .before .before .before .before .args .n) (omega arith))
 
-slice-aggregate-put-bytes : tie.Need-slice-aggregate-put-bytes
-slice-aggregate-put-bytes c = refl
-
 put-bytes-requires-2 : tie.Need-put-bytes-requires-2
 put-bytes-requires-2 c κs = omega (arith, u64-digits (c .before .before .before .before .before .before .before .before .before .before .before .before .args .n) (omega arith))
-
-same-length : tie.Need-same-length
-same-length c = omega arith
 
 returns : tie.Need-returns
 returns c =
@@ -35,9 +26,9 @@ pub put-line-spec : {M : Type 1} → statement M
 put-line-spec =
     tie.close
     (tie.spec
-    put-bytes-requires
+    (λ c κs. omega arith)
     put-decimal-requires
-    slice-aggregate-put-bytes
+    (λ c. refl)
     put-bytes-requires-2
-    same-length
+    (λ c. omega arith)
     returns)

@@ -6,39 +6,6 @@ use Rattle.printout.proofs.Printing.{put-next}
 use Rattle.printout.proofs.put_money.Statement.{statement}
 use Rattle.printout.proofs.put_money.Tie as tie
 
-slice-aggregate-put-line : tie.Need-slice-aggregate-put-line
-slice-aggregate-put-line c = refl
-
-put-line-requires : tie.Need-put-line-requires
-put-line-requires c κs = omega arith
-
-slice-aggregate-put-line-2 : tie.Need-slice-aggregate-put-line-2
-slice-aggregate-put-line-2 c = refl
-
-put-line-requires-2 : tie.Need-put-line-requires-2
-put-line-requires-2 c κs = omega arith
-
-slice-aggregate-put-line-3 : tie.Need-slice-aggregate-put-line-3
-slice-aggregate-put-line-3 c = refl
-
-put-line-requires-3 : tie.Need-put-line-requires-3
-put-line-requires-3 c κs = omega arith
-
-slice-aggregate-put-line-4 : tie.Need-slice-aggregate-put-line-4
-slice-aggregate-put-line-4 c = refl
-
-put-line-requires-4 : tie.Need-put-line-requires-4
-put-line-requires-4 c κs = omega arith
-
-slice-aggregate-put-line-5 : tie.Need-slice-aggregate-put-line-5
-slice-aggregate-put-line-5 c = refl
-
-put-line-requires-5 : tie.Need-put-line-requires-5
-put-line-requires-5 c κs = omega arith
-
-same-length : tie.Need-same-length
-same-length c = omega arith
-
 returns : tie.Need-returns
 unfolding money-lines
 returns c =
@@ -57,15 +24,15 @@ pub put-money-spec : {M : Type 1} → statement M
 put-money-spec =
     tie.close
     (tie.spec
-    slice-aggregate-put-line
-    put-line-requires
-    slice-aggregate-put-line-2
-    put-line-requires-2
-    slice-aggregate-put-line-3
-    put-line-requires-3
-    slice-aggregate-put-line-4
-    put-line-requires-4
-    slice-aggregate-put-line-5
-    put-line-requires-5
-    same-length
+    (λ c. refl)
+    (λ c κs. omega arith)
+    (λ c. refl)
+    (λ c κs. omega arith)
+    (λ c. refl)
+    (λ c κs. omega arith)
+    (λ c. refl)
+    (λ c κs. omega arith)
+    (λ c. refl)
+    (λ c κs. omega arith)
+    (λ c. omega arith)
     returns)

@@ -7,24 +7,6 @@ use Rattle.printout.proofs.Printing.{put-next}
 use Rattle.printout.proofs.put_report.Statement.{statement}
 use Rattle.printout.proofs.put_report.Tie as tie
 
-enum-known-r : tie.Need-enum-known-r
-enum-known-r c = search needs
-
-put-money-requires : tie.Need-put-money-requires
-put-money-requires c κs = omega arith
-
-put-data-requires : tie.Need-put-data-requires
-put-data-requires c κs = omega arith
-
-enum-known-r-2 : tie.Need-enum-known-r-2
-enum-known-r-2 c = search needs
-
-slice-aggregate-put-line : tie.Need-slice-aggregate-put-line
-slice-aggregate-put-line c = refl
-
-put-line-requires : tie.Need-put-line-requires
-put-line-requires c κs = omega arith
-
 returns : tie.Need-returns
 unfolding text-of
 returns c =
@@ -43,11 +25,11 @@ pub put-report-spec : {M : Type 1} → statement M
 put-report-spec =
     tie.close
     (tie.spec
-    enum-known-r
-    put-money-requires
-    put-data-requires
-    enum-known-r-2
-    slice-aggregate-put-line
-    put-line-requires
+    (λ c. search needs)
+    (λ c κs. omega arith)
+    (λ c κs. omega arith)
+    (λ c. search needs)
+    (λ c. refl)
+    (λ c κs. omega arith)
     returns
     returns-2)

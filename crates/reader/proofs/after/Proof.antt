@@ -1,5 +1,4 @@
 -- `reader::after` meets its contract. Assumes nothing.
-use mathlib.Core.Path.{_≡_}
 use Prim.Native.Nat.{_+_, _<_, _≤_}
 use native.Mathlib.Omega.{arith}
 use lib.ListN.{length}
@@ -15,18 +14,12 @@ returns c =
     let h : length s < at + 8 = omega arith in
     simp (lt-leb (at + 8) (length s) h)
 
-sub-if2 : tie.Need-sub-if2
-sub-if2 c = search needs
-
 returns-2 : tie.Need-returns-2
 returns-2 c =
     let s = c .before .before .args .s .now in
     let at = c .before .before .args .at in
     let h : length s < at + 8 = omega arith in
     simp (lt-leb (at + 8) (length s) h)
-
-add-result : tie.Need-add-result
-add-result c = search needs
 
 returns-3 : tie.Need-returns-3
 returns-3 c =
@@ -36,4 +29,4 @@ returns-3 c =
     simp (le-leb (at + 8) (length s) h)
 
 pub after-spec : {M : Type 1} → statement M
-after-spec = tie.close (tie.spec returns sub-if2 returns-2 add-result returns-3)
+after-spec = tie.close (tie.spec returns (λ c. search needs) returns-2 (λ c. search needs) returns-3)

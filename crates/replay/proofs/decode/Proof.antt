@@ -5,43 +5,25 @@ use borrow.Author.Needs.{needs}
 use Rattle.replay.proofs.decode.Statement.{statement}
 use Rattle.replay.proofs.decode.Tie as tie
 
-register-coded-requires : tie.Need-register-coded-requires
-register-coded-requires c κs = search needs
-
 returns : tie.Need-returns
 unfolding coded
 returns c = simp (eq-eqb _ _ (c .before .if1 .taken)) (c .register-coded .ensures)
-
-use-coded-requires : tie.Need-use-coded-requires
-use-coded-requires c κs = search needs
 
 returns-2 : tie.Need-returns-2
 unfolding coded
 returns-2 c = simp (ne-eqb _ _ (c .before .before .if1 .left), eq-eqb _ _ (c .before .if2 .taken)) (c .use-coded .ensures)
 
-use-coded-requires-2 : tie.Need-use-coded-requires-2
-use-coded-requires-2 c κs = search needs
-
 returns-3 : tie.Need-returns-3
 unfolding coded
 returns-3 c = simp (ne-eqb _ _ (c .before .before .before .if1 .left), ne-eqb _ _ (c .before .before .if2 .left), eq-eqb _ _ (c .before .if3 .taken)) (c .use-coded2 .ensures)
-
-use-coded-requires-3 : tie.Need-use-coded-requires-3
-use-coded-requires-3 c κs = search needs
 
 returns-4 : tie.Need-returns-4
 unfolding coded
 returns-4 c = simp (ne-eqb _ _ (c .before .before .before .before .if1 .left), ne-eqb _ _ (c .before .before .before .if2 .left), ne-eqb _ _ (c .before .before .if3 .left), eq-eqb _ _ (c .before .if4 .taken)) (c .use-coded3 .ensures)
 
-use-coded-requires-4 : tie.Need-use-coded-requires-4
-use-coded-requires-4 c κs = search needs
-
 returns-5 : tie.Need-returns-5
 unfolding coded
 returns-5 c = simp (ne-eqb _ _ (c .before .before .before .before .before .if1 .left), ne-eqb _ _ (c .before .before .before .before .if2 .left), ne-eqb _ _ (c .before .before .before .if3 .left), ne-eqb _ _ (c .before .before .if4 .left), eq-eqb _ _ (c .before .if5 .taken)) (c .use-coded4 .ensures)
-
-other-coded-requires : tie.Need-other-coded-requires
-other-coded-requires c κs = search needs
 
 returns-6 : tie.Need-returns-6
 unfolding coded
@@ -51,15 +33,15 @@ pub decode-spec : {M : Type 1} → statement M
 decode-spec =
     tie.close
     (tie.spec
-    register-coded-requires
+    (λ c κs. search needs)
     returns
-    use-coded-requires
+    (λ c κs. search needs)
     returns-2
-    use-coded-requires-2
+    (λ c κs. search needs)
     returns-3
-    use-coded-requires-3
+    (λ c κs. search needs)
     returns-4
-    use-coded-requires-4
+    (λ c κs. search needs)
     returns-5
-    other-coded-requires
+    (λ c κs. search needs)
     returns-6)

@@ -5,24 +5,6 @@ use borrow.Author.Needs.{needs}
 use Rattle.replay.proofs.replay_with.Statement.{statement}
 use Rattle.replay.proofs.replay_with.Tie as tie
 
-enum-known-x : tie.Need-enum-known-x
-enum-known-x c = search needs
-
-call-with-requires : tie.Need-call-with-requires
-call-with-requires c κs = search needs
-
-one-if-refused-requires : tie.Need-one-if-refused-requires
-one-if-refused-requires c κs = search needs
-
-add-t12 : tie.Need-add-t12
-add-t12 c = search needs
-
-enum-told : tie.Need-enum-told
-enum-told c = search needs
-
-add-t13 : tie.Need-add-t13
-add-t13 c = search needs
-
 returns : tie.Need-returns
 unfolding replay-step
 returns c = let d = c .before .before .before .before .before .before .before .before .before in
@@ -37,11 +19,11 @@ pub replay-with-spec : {M : Type 1} → statement M
 replay-with-spec =
     tie.close
     (tie.spec
-    enum-known-x
-    call-with-requires
-    one-if-refused-requires
-    add-t12
-    enum-told
-    add-t13
+    (λ c. search needs)
+    (λ c κs. search needs)
+    (λ c κs. search needs)
+    (λ c. search needs)
+    (λ c. search needs)
+    (λ c. search needs)
     returns
     returns-2)

@@ -5,20 +5,8 @@ use borrow.Author.Needs.{needs}
 use Rattle.report.proofs.statement_of.Statement.{statement}
 use Rattle.report.proofs.statement_of.Tie as tie
 
-read-requires : tie.Need-read-requires
-read-requires c κs = search needs
-
-enum-known-read : tie.Need-enum-known-read
-enum-known-read c = search needs
-
 run-trip-requires : tie.Need-run-trip-requires
 run-trip-requires c κs = sym (c .before .before .before .read .ensures) ∙ c .before .read2 .given .1
-
-show-figures-requires : tie.Need-show-figures-requires
-show-figures-requires c κs = search needs
-
-enum-known-read-2 : tie.Need-enum-known-read-2
-enum-known-read-2 c = search needs
 
 returns : tie.Need-returns
 returns c = let e = sym (c .before .before .before .before .before .read .ensures) ∙ c .before .before .before .read2 .given .1 in
@@ -31,10 +19,10 @@ pub statement-of-spec : {M : Type 1} → statement M
 statement-of-spec =
     tie.close
     (tie.spec
-    read-requires
-    enum-known-read
+    (λ c κs. search needs)
+    (λ c. search needs)
     run-trip-requires
-    show-figures-requires
-    enum-known-read-2
+    (λ c κs. search needs)
+    (λ c. search needs)
     returns
     returns-2)

@@ -3,7 +3,7 @@ use mathlib.Core.Path.{_≡_, sym, _∙_}
 use mathlib.Core.Bool.{true}
 use Rattle.tariff.specs.Tests.{verdict-of}
 use Rattle.tariff.proofs.Tests.{not-true, not-false}
-use Rattle.sections.specs.Table.{length-right, sum-right, table-right, file-reasons, file-verdict}
+use Rattle.sections.specs.Table.{length-right, sum-right, file-reasons, file-verdict}
 use Rattle.sections.proofs.Table.{at-least}
 use borrow.Author.Needs.{needs}
 use Rattle.sections.proofs.file_verdict.Statement.{statement}
@@ -15,15 +15,9 @@ is-long c = sym (c .before .length-right .ensures) ∙ not-false (c .before .len
 is-summed : (c : tie.Else2) → sum-right (c .before .before .before .before .before .args .file .now) ≡ true
 is-summed c = sym (c .before .sum-right .ensures) ∙ not-false (c .before .sum-right .result) (c .if2 .left)
 
-length-right-requires : tie.Need-length-right-requires
-length-right-requires c κs = search needs
-
 returns : tie.Need-returns
 unfolding file-verdict file-reasons verdict-of
 returns c = simp (sym (c .before .length-right .ensures) ∙ not-true (c .before .length-right .result) (c .if1 .taken))
-
-sum-right-requires : tie.Need-sum-right-requires
-sum-right-requires c κs = search needs
 
 returns-2 : tie.Need-returns-2
 unfolding file-verdict file-reasons verdict-of
@@ -44,9 +38,9 @@ pub file-verdict-spec : {M : Type 1} → statement M
 file-verdict-spec =
     tie.close
     (tie.spec
-    length-right-requires
+    (λ c κs. search needs)
     returns
-    sum-right-requires
+    (λ c κs. search needs)
     returns-2
     table-right-requires
     returns-3

@@ -8,24 +8,6 @@ use borrow.Author.Needs.{needs}
 use Rattle.sections.proofs.find.Statement.{statement}
 use Rattle.sections.proofs.find.Tie as tie
 
-find-verdict-requires : tie.Need-find-verdict-requires
-find-verdict-requires c κs = search needs
-
-enum-told : tie.Need-enum-told
-enum-told c = search needs
-
-sub-result : tie.Need-sub-result
-sub-result c = search needs
-
-part-result-start : tie.Need-part-result-start
-part-result-start c = search needs
-
-part-result-end : tie.Need-part-result-end
-part-result-end c = search needs
-
-enum-told-2 : tie.Need-enum-told-2
-enum-told-2 c = search needs
-
 part-requires : tie.Need-part-requires
 part-requires c κs = found-both (c .before .before .before .before .args .file .now) (c .before .before .before .before .args .kind) (ap is-accepted (sym (c .before .before .find-verdict .ensures) ∙ c .enum-told2 .given .1))
 
@@ -45,12 +27,12 @@ pub find-spec : {M : Type 1} → statement M
 find-spec =
     tie.close
     (tie.spec
-    find-verdict-requires
-    enum-told
-    sub-result
-    part-result-start
-    part-result-end
-    enum-told-2
+    (λ c κs. search needs)
+    (λ c. search needs)
+    (λ c. search needs)
+    (λ c. search needs)
+    (λ c. search needs)
+    (λ c. search needs)
     part-requires
     returns
     returns-2)

@@ -11,15 +11,6 @@ use Rattle.sections.proofs.find_verdict.Tie as tie
 accepted-here : (c : tie.After-enum-told) → file-verdict (c .before .before .before .before .args .file .now) ≡ Accepted
 accepted-here c = sym (c .before .before .file-verdict .ensures) ∙ c .enum-told .given .1
 
-file-verdict-requires : tie.Need-file-verdict-requires
-file-verdict-requires c κs = search needs
-
-enum-known-v : tie.Need-enum-known-v
-enum-known-v c = search needs
-
-enum-told : tie.Need-enum-told
-enum-told c = search needs
-
 is-once-requires : tie.Need-is-once-requires
 is-once-requires c κs = ap is-accepted (accepted-here c)
 
@@ -42,9 +33,9 @@ pub find-verdict-spec : {M : Type 1} → statement M
 find-verdict-spec =
     tie.close
     (tie.spec
-    file-verdict-requires
-    enum-known-v
-    enum-told
+    (λ c κs. search needs)
+    (λ c. search needs)
+    (λ c. search needs)
     is-once-requires
     returns
     returns-2

@@ -9,9 +9,6 @@ use Rattle.sections.proofs.is_once.Tie as tie
 word-at-requires : tie.Need-word-at-requires
 word-at-requires c κs = omega (arith, keeps (c .before .args .file .now) (c .before .pre))
 
-cast-count : tie.Need-cast-count
-cast-count c = search needs
-
 times-among-requires : tie.Need-times-among-requires
 times-among-requires c κs = omega (arith, keeps (c .before .before .args .file .now) (c .before .before .pre), c .word-at .ensures)
 
@@ -20,4 +17,4 @@ unfolding just-once
 returns c = simp (c .times-among .ensures, c .before .word-at .ensures)
 
 pub is-once-spec : {M : Type 1} → statement M
-is-once-spec = tie.close (tie.spec word-at-requires cast-count times-among-requires returns)
+is-once-spec = tie.close (tie.spec word-at-requires (λ c. search needs) times-among-requires returns)

@@ -9,15 +9,9 @@ returns : tie.Need-returns
 unfolding length-right
 returns c = simp (lt-leb _ _ (c .if1 .taken))
 
-word-at-requires : tie.Need-word-at-requires
-word-at-requires c κs = search needs
-
-cast-result : tie.Need-cast-result
-cast-result c = search needs
-
 returns-2 : tie.Need-returns-2
 unfolding length-right
 returns-2 c = simp (le-leb _ _ (c .before .if1 .left), c .word-at .ensures)
 
 pub length-right-spec : {M : Type 1} → statement M
-length-right-spec = tie.close (tie.spec returns word-at-requires cast-result returns-2)
+length-right-spec = tie.close (tie.spec returns (λ c κs. search needs) (λ c. search needs) returns-2)

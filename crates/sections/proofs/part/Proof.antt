@@ -23,9 +23,6 @@ lies-here c = rw (entry-is c) (lies (c .before .before .before .args .file .now)
 word-at-requires : tie.Need-word-at-requires
 word-at-requires c κs = omega (arith, keeps-here c)
 
-cast-count : tie.Need-cast-count
-cast-count c = search needs
-
 entry-among-requires : tie.Need-entry-among-requires
 entry-among-requires c κs = omega (arith, keeps-here (c .before), c .word-at .ensures)
 
@@ -38,9 +35,6 @@ add-word-at c = omega (arith, lies-here c, keeps-here (c .before .before))
 word-at-requires-2 : tie.Need-word-at-requires-2
 word-at-requires-2 c κs = omega (arith, lies-here c, keeps-here (c .before .before))
 
-cast-start : tie.Need-cast-start
-cast-start c = search needs
-
 mul-word-at-2 : tie.Need-mul-word-at-2
 mul-word-at-2 c = omega (arith, lies-here (c .before), keeps-here (c .before .before .before))
 
@@ -49,18 +43,6 @@ add-word-at-2 c = omega (arith, lies-here (c .before), keeps-here (c .before .be
 
 word-at-requires-3 : tie.Need-word-at-requires-3
 word-at-requires-3 c κs = omega (arith, lies-here (c .before), keeps-here (c .before .before .before))
-
-cast-len : tie.Need-cast-len
-cast-len c = search needs
-
-add-end : tie.Need-add-end
-add-end c = search needs
-
-sub-result : tie.Need-sub-result
-sub-result c = search needs
-
-part-result-start : tie.Need-part-result-start
-part-result-start c = search needs
 
 part-result-end : tie.Need-part-result-end
 part-result-end c = omega (arith, lies-here (c .before .before), c .word-at3 .ensures, c .before .word-at2 .ensures)
@@ -80,18 +62,18 @@ part-spec =
     tie.close
     (tie.spec
     word-at-requires
-    cast-count
+    (λ c. search needs)
     entry-among-requires
     mul-word-at
     add-word-at
     word-at-requires-2
-    cast-start
+    (λ c. search needs)
     mul-word-at-2
     add-word-at-2
     word-at-requires-3
-    cast-len
-    add-end
-    sub-result
-    part-result-start
+    (λ c. search needs)
+    (λ c. search needs)
+    (λ c. search needs)
+    (λ c. search needs)
     part-result-end
     returns)

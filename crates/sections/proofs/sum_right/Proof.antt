@@ -4,12 +4,9 @@ use borrow.Author.Needs.{needs}
 use Rattle.sections.proofs.sum_right.Statement.{statement}
 use Rattle.sections.proofs.sum_right.Tie as tie
 
-sum-requires : tie.Need-sum-requires
-sum-requires c κs = search needs
-
 returns : tie.Need-returns
 unfolding sum-right
 returns c = simp (c .sum .ensures)
 
 pub sum-right-spec : {M : Type 1} → statement M
-sum-right-spec = tie.close (tie.spec sum-requires returns)
+sum-right-spec = tie.close (tie.spec (λ c κs. search needs) returns)

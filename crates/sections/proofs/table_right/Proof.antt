@@ -8,12 +8,6 @@ use borrow.Author.Needs.{needs}
 use Rattle.sections.proofs.table_right.Statement.{statement}
 use Rattle.sections.proofs.table_right.Tie as tie
 
-word-at-requires : tie.Need-word-at-requires
-word-at-requires c κs = search needs
-
-cast-count : tie.Need-cast-count
-cast-count c = search needs
-
 returns : tie.Need-returns
 unfolding table-right
 returns c =
@@ -29,12 +23,6 @@ returns-2 c =
     let h′ : 8 < section-count f = omega (arith, c .before .before .word-at .ensures) in
     simp (le-leb 1 (section-count f) h, lt-leb (section-count f) 8 h′)
 
-mul-if3 : tie.Need-mul-if3
-mul-if3 c = search needs
-
-add-if3 : tie.Need-add-if3
-add-if3 c = search needs
-
 returns-3 : tie.Need-returns-3
 unfolding table-right
 returns-3 c =
@@ -43,9 +31,6 @@ returns-3 c =
     let h′ : section-count f ≤ 8 = omega (arith, c .before .before .before .word-at .ensures) in
     let h″ : length f < 12 + 12 * section-count f = omega (arith, c .before .before .before .word-at .ensures) in
     simp (le-leb 1 (section-count f) h, le-leb (section-count f) 8 h′, lt-leb (12 + 12 * section-count f) (length f) h″)
-
-bodies-follow-requires : tie.Need-bodies-follow-requires
-bodies-follow-requires c κs = search needs
 
 returns-4 : tie.Need-returns-4
 unfolding table-right
@@ -61,12 +46,12 @@ pub table-right-spec : {M : Type 1} → statement M
 table-right-spec =
     tie.close
     (tie.spec
-    word-at-requires
-    cast-count
+    (λ c κs. search needs)
+    (λ c. search needs)
     returns
     returns-2
-    mul-if3
-    add-if3
+    (λ c. search needs)
+    (λ c. search needs)
     returns-3
-    bodies-follow-requires
+    (λ c κs. search needs)
     returns-4)

@@ -1,16 +1,13 @@
 -- `account::Account::next_day` meets its contract. Assumes nothing.
 use Rattle.account.specs.declared.Call.the-variants.{NextDay}
-use Rattle.account.proofs.Returns.{joined-answer}
+use Rattle.account.proofs.Returns.{joined-applied}
 use borrow.Author.Needs.{needs}
 use Rattle.account.proofs.Account.next_day.Statement.{statement}
 use Rattle.account.proofs.Account.next_day.Tie as tie
 
-next-day-with-requires : tie.Need-next-day-with-requires
-next-day-with-requires c κs = search needs
-
 returns : tie.Need-returns
 returns c = let a = c .before .before .before .before .args in
-    simp (c .before .next-day-with .ensures .0) (joined-answer (a .t1) NextDay _ (c .before .next-day-with .ensures .1))
+    simp (c .before .next-day-with .ensures .0) (joined-applied (a .t1) NextDay _ (c .before .next-day-with .ensures .1))
 
 pub next-day-spec : {M : Type 1} → statement M
-next-day-spec = tie.close (tie.spec next-day-with-requires returns)
+next-day-spec = tie.close (tie.spec (λ c κs. search needs) returns)

@@ -4,7 +4,7 @@ use mathlib.Core.Bool.{true}
 use Rattle.tariff.specs.declared.Verdict.the-variants.{Accepted}
 use Rattle.tariff.specs.Tests.{is-accepted}
 use Rattle.tariff.specs.Plan.{plan-verdict}
-use Rattle.tariff.proofs.Plans.{plan-ranged, opens-tells}
+use Rattle.tariff.proofs.PlanLaws.{plan-ranged, opens-tells}
 use Rattle.account.specs.Answers.{open-answer}
 use borrow.Author.Needs.{needs}
 use Rattle.account.proofs.Account.open.Statement.{statement}
@@ -13,20 +13,8 @@ use Rattle.account.proofs.Account.open.Tie as tie
 accepted : (c : tie.After-enum-told) → is-accepted (plan-verdict (c .before .before .before .args .p)) ≡ true
 accepted c = let e : plan-verdict (c .before .before .before .args .p) ≡ Accepted = sym (c .before .before .check-plan .ensures) ∙ c .enum-told .given .1 in rw e refl
 
-check-plan-requires : tie.Need-check-plan-requires
-check-plan-requires c κs = search needs
-
-enum-told : tie.Need-enum-told
-enum-told c = search needs
-
 opened-account-requires : tie.Need-opened-account-requires
 opened-account-requires c κs = let r = plan-ranged (c .before .before .before .args .p) (opens-tells (c .before .before .before .args .p) (accepted c) .ranges) in record { money = r .money; kilobytes = r .kilobytes }
-
-enum-known-verdict : tie.Need-enum-known-verdict
-enum-known-verdict c = search needs
-
-opened-account-requires-2 : tie.Need-opened-account-requires-2
-opened-account-requires-2 c κs = search needs
 
 returns : tie.Need-returns
 unfolding open-answer
@@ -40,10 +28,10 @@ pub open-spec : {M : Type 1} → statement M
 open-spec =
     tie.close
     (tie.spec
-    check-plan-requires
-    enum-told
+    (λ c κs. search needs)
+    (λ c. search needs)
     opened-account-requires
-    enum-known-verdict
-    opened-account-requires-2
+    (λ c. search needs)
+    (λ c κs. search needs)
     returns
     returns-2)

@@ -1,5 +1,5 @@
 -- `tariff::claims::rows_of_table` meets its contract. Assumes nothing.
-use Rattle.tariff.proofs.Caps.{rows-of-table}
+use Rattle.tariff.proofs.CapLaws.{rows-of-table}
 use Rattle.tariff.proofs.claims.rows_of_table.Statement.{statement}
 use Rattle.tariff.proofs.claims.rows_of_table.Tie as tie
 

@@ -1,5 +1,5 @@
 -- `tariff::claims::rows_read` meets its contract. Assumes nothing.
-use Rattle.tariff.proofs.Caps.{rows-read-tell}
+use Rattle.tariff.proofs.CapLaws.{rows-read-tell}
 use Rattle.tariff.proofs.claims.rows_read.Statement.{statement}
 use Rattle.tariff.proofs.claims.rows_read.Tie as tie
 

@@ -1,5 +1,5 @@
 -- `tariff::claims::rows_tell_days` meets its contract. Assumes nothing.
-use Rattle.tariff.proofs.Caps.{rows-tell-days}
+use Rattle.tariff.proofs.CapLaws.{rows-tell-days}
 use Rattle.tariff.proofs.claims.rows_tell_days.Statement.{statement}
 use Rattle.tariff.proofs.claims.rows_tell_days.Tie as tie
 

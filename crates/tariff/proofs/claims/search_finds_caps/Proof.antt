@@ -1,5 +1,5 @@
 -- `tariff::claims::search_finds_caps` meets its contract. Assumes nothing.
-use Rattle.tariff.proofs.Caps.{search-finds-caps}
+use Rattle.tariff.proofs.CapLaws.{search-finds-caps}
 use Rattle.tariff.proofs.claims.search_finds_caps.Statement.{statement}
 use Rattle.tariff.proofs.claims.search_finds_caps.Tie as tie
 

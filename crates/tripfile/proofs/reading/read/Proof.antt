@@ -22,20 +22,8 @@ both-here c =
     let x = not-false (a && b) (c .if1 .left) in
     (sym (c .before .before .is-once .ensures) ∙ and-left a b x, sym (c .before .is-once2 .ensures) ∙ and-right a b x)
 
-file-verdict-requires : tie.Need-file-verdict-requires
-file-verdict-requires c κs = search needs
-
-enum-known-v : tie.Need-enum-known-v
-enum-known-v c = search needs
-
-enum-told : tie.Need-enum-told
-enum-told c = search needs
-
 is-once-requires : tie.Need-is-once-requires
 is-once-requires c κs = ap is-accepted (accepted-here c)
-
-is-once-requires-2 : tie.Need-is-once-requires-2
-is-once-requires-2 c κs = ap is-accepted (accepted-here (c .before))
 
 returns : tie.Need-returns
 unfolding read-of
@@ -48,9 +36,6 @@ part-requires c κs = (ap is-accepted (accepted-here (c .before .before .before)
 
 part-requires-2 : tie.Need-part-requires-2
 part-requires-2 c κs = (ap is-accepted (accepted-here (c .before .before .before .before)), both-here (c .before) .1)
-
-read-bodies-requires : tie.Need-read-bodies-requires
-read-bodies-requires c κs = search needs
 
 returns-2 : tie.Need-returns-2
 unfolding read-of
@@ -68,14 +53,14 @@ pub read-spec : {M : Type 1} → statement M
 read-spec =
     tie.close
     (tie.spec
-    file-verdict-requires
-    enum-known-v
-    enum-told
+    (λ c κs. search needs)
+    (λ c. search needs)
+    (λ c. search needs)
     is-once-requires
-    is-once-requires-2
+    (λ c κs. ap is-accepted (accepted-here (c .before)))
     returns
     part-requires
     part-requires-2
-    read-bodies-requires
+    (λ c κs. search needs)
     returns-2
     returns-3)

@@ -31,9 +31,6 @@ returns : tie.Need-returns
 unfolding body-reasons verdict-of
 returns c = simp (c .if1 .taken)
 
-body-right-requires : tie.Need-body-right-requires
-body-right-requires c κs = search needs
-
 returns-2 : tie.Need-returns-2
 unfolding body-reasons verdict-of
 returns-2 c = simp (sized (c .before .before), sym (c .before .body-right .ensures) ∙ not-true (c .before .body-right .result) (c .if2 .taken))
@@ -43,15 +40,6 @@ terms-of-requires c κs =
     let p = c .before .before .before .before .before .args .plan .now in
     let k = c .before .before .before .before .before .args .calls .now in
     omega (arith, eqb-true (length p) 28 (and-left (eqb (length p) 28) (calls-body-right k) (sized (c .before .before))))
-
-plan-from-requires : tie.Need-plan-from-requires
-plan-from-requires c κs = search needs
-
-enum-known-answer : tie.Need-enum-known-answer
-enum-known-answer c = search needs
-
-enum-known-answer-2 : tie.Need-enum-known-answer-2
-enum-known-answer-2 c = search needs
 
 returns-3 : tie.Need-returns-3
 returns-3 c =
@@ -72,11 +60,11 @@ read-bodies-spec =
     tie.close
     (tie.spec
     returns
-    body-right-requires
+    (λ c κs. search needs)
     returns-2
     terms-of-requires
-    plan-from-requires
-    enum-known-answer
-    enum-known-answer-2
+    (λ c κs. search needs)
+    (λ c. search needs)
+    (λ c. search needs)
     returns-3
     returns-4)

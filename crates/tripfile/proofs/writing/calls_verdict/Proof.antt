@@ -39,24 +39,23 @@ returns-2 : tie.Need-returns-2
 unfolding calls-reasons verdict-of
 returns-2 c = simp (counted (c .before .before), sym (c .before .pairs-right .ensures) ∙ not-true (c .before .pairs-right .result) (c .if2 .taken))
 
-mul-if3 : tie.Need-mul-if3
-mul-if3 c = search needs
-
 add-if3 : tie.Need-add-if3
 add-if3 c = omega (arith, counts (c .before .before))
 
 returns-3 : tie.Need-returns-3
 unfolding calls-reasons verdict-of
 returns-3 c =
-    let h : c .before .before .before .before .before .before .args .room < file-size (length (c .before .before .before .before .before .before .args .codes .now)) = c .if3 .taken in
-    simp (counted (c .before .before .before), right (c .before), lt-ltb (c .before .before .before .before .before .before .args .room) (file-size (length (c .before .before .before .before .before .before .args .codes .now))) h)
+    let d = c .before .before .before .before .before .before in
+    let h : d .args .room < file-size (length (d .args .codes .now)) = c .if3 .taken in
+    simp (counted (c .before .before .before), right (c .before), lt-ltb (d .args .room) (file-size (length (d .args .codes .now))) h)
 
 returns-4 : tie.Need-returns-4
 unfolding calls-reasons verdict-of
 returns-4 c =
-    let h : file-size (length (c .before .before .before .before .before .before .args .codes .now)) ≤ c .before .before .before .before .before .before .args .room = c .if3 .left in
-    simp (counted (c .before .before .before), right (c .before), le-ltb (c .before .before .before .before .before .before .args .room) (file-size (length (c .before .before .before .before .before .before .args .codes .now))) h)
+    let d = c .before .before .before .before .before .before in
+    let h : file-size (length (d .args .codes .now)) ≤ d .args .room = c .if3 .left in
+    simp (counted (c .before .before .before), right (c .before), le-ltb (d .args .room) (file-size (length (d .args .codes .now))) h)
 
 pub calls-verdict-spec : {M : Type 1} → statement M
 calls-verdict-spec =
-    tie.close (tie.spec returns pairs-right-requires returns-2 mul-if3 add-if3 returns-3 returns-4)
+    tie.close (tie.spec returns pairs-right-requires returns-2 (λ c. search needs) add-if3 returns-3 returns-4)

@@ -20,27 +20,6 @@ loop-holds : tie.Need-loop-holds Inv-loop μ-loop
 unfolding calls-right
 loop-holds c = (search needs, refl)
 
-mul-call-right : tie.Need-mul-call-right Inv-loop μ-loop
-mul-call-right c = omega arith
-
-shared-slice-read-call-right : tie.Need-shared-slice-read-call-right Inv-loop μ-loop
-shared-slice-read-call-right c = omega arith
-
-mul-call-right-2 : tie.Need-mul-call-right-2 Inv-loop μ-loop
-mul-call-right-2 c = omega arith
-
-shared-slice-read-call-right-2 : tie.Need-shared-slice-read-call-right-2 Inv-loop μ-loop
-shared-slice-read-call-right-2 c = omega arith
-
-call-right-requires : tie.Need-call-right-requires Inv-loop μ-loop
-call-right-requires c κs = search needs
-
-add-i : tie.Need-add-i Inv-loop μ-loop
-add-i c = omega arith
-
-loop-less : tie.Need-loop-less Inv-loop μ-loop
-loop-less c = omega arith
-
 loop-again : tie.Need-loop-again Inv-loop μ-loop
 loop-again c =
     let l = c .before .before .before .before in
@@ -63,12 +42,12 @@ pairs-right-spec =
     Inv-loop
     μ-loop
     loop-holds
-    mul-call-right
-    shared-slice-read-call-right
-    mul-call-right-2
-    shared-slice-read-call-right-2
-    call-right-requires
-    add-i
-    loop-less
+    (λ c. omega arith)
+    (λ c. omega arith)
+    (λ c. omega arith)
+    (λ c. omega arith)
+    (λ c κs. search needs)
+    (λ c. omega arith)
+    (λ c. omega arith)
     loop-again
     returns)

@@ -5,18 +5,6 @@ use borrow.Author.Needs.{needs}
 use Rattle.tripfile.proofs.writing.verdict_on.Statement.{statement}
 use Rattle.tripfile.proofs.writing.verdict_on.Tie as tie
 
-check-plan-requires : tie.Need-check-plan-requires
-check-plan-requires c κs = search needs
-
-enum-known-v : tie.Need-enum-known-v
-enum-known-v c = search needs
-
-enum-told : tie.Need-enum-told
-enum-told c = search needs
-
-calls-verdict-requires : tie.Need-calls-verdict-requires
-calls-verdict-requires c κs = search needs
-
 returns : tie.Need-returns
 returns c =
     let b = c .before .before .before .before .before .before .args in
@@ -30,4 +18,4 @@ returns-2 c =
 pub verdict-on-spec : {M : Type 1} → statement M
 verdict-on-spec =
     tie.close
-    (tie.spec check-plan-requires enum-known-v enum-told calls-verdict-requires returns returns-2)
+    (tie.spec (λ c κs. search needs) (λ c. search needs) (λ c. search needs) (λ c κs. search needs) returns returns-2)

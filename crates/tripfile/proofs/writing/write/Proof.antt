@@ -14,24 +14,14 @@ accepted-here : (c : tie.After-enum-told) → write-verdict (c .before .before .
 accepted-here c = sym (c .before .before .verdict-on .ensures) ∙ c .enum-told .given .1
 
 writes-here : (c : tie.After-enum-told) → Writes (c .before .before .before .before .before .before .args .plan) (c .before .before .before .before .before .before .args .codes .now) (c .before .before .before .before .before .before .args .numbers .now) (length (c .before .before .before .before .before .before .args .buf .now))
-writes-here c = writes (c .before .before .before .before .before .before .args .plan) (c .before .before .before .before .before .before .args .codes .now) (c .before .before .before .before .before .before .args .numbers .now) (length (c .before .before .before .before .before .before .args .buf .now)) (ap is-accepted (accepted-here c))
-
-verdict-on-requires : tie.Need-verdict-on-requires
-verdict-on-requires c κs = search needs
-
-enum-known-v : tie.Need-enum-known-v
-enum-known-v c = search needs
-
-enum-told : tie.Need-enum-told
-enum-told c = search needs
+writes-here c =
+    let d = c .before .before .before .before .before .before in
+    writes (d .args .plan) (d .args .codes .now) (d .args .numbers .now) (length (d .args .buf .now)) (ap is-accepted (accepted-here c))
 
 fill-requires : tie.Need-fill-requires
 fill-requires c κs =
     let b = c .before .before .before .before .before .before .before .args in
     ready (b .plan) (b .codes .now) (b .numbers .now) (length (b .buf .now)) (writes-here (c .before))
-
-mul-t13 : tie.Need-mul-t13
-mul-t13 c = search needs
 
 add-t14 : tie.Need-add-t14
 add-t14 c = omega (arith, writes-here (c .before .before .before .before))
@@ -42,9 +32,6 @@ returns c =
     let e = sym (c .before .before .before .verdict-on .ensures) ∙ c .before .v .given .1 in
     (simp e, simp e)
 
-same-length : tie.Need-same-length
-same-length c = search needs
-
 returns-2 : tie.Need-returns-2
 unfolding written-of buffer-of
 returns-2 c = (simp (accepted-here (c .before .before .before .before)), simp (accepted-here (c .before .before .before .before), c .before .before .fill .ensures))
@@ -53,12 +40,12 @@ pub write-spec : {M : Type 1} → statement M
 write-spec =
     tie.close
     (tie.spec
-    verdict-on-requires
-    enum-known-v
-    enum-told
+    (λ c κs. search needs)
+    (λ c. search needs)
+    (λ c. search needs)
     fill-requires
-    mul-t13
+    (λ c. search needs)
     add-t14
     returns
-    same-length
+    (λ c. search needs)
     returns-2)

@@ -1,7 +1,0 @@
--- `afford::claims::cost_grows` meets its contract. Assumes nothing.
-use Rattle.afford.proofs.Growth.{cost-grows}
-use Rattle.afford.proofs.claims.cost_grows.Statement.{statement}
-use Rattle.afford.proofs.claims.cost_grows.Tie as tie
-
-pub cost-grows-spec : {M : Type 1} → statement M
-cost-grows-spec = tie.close (tie.spec (λ c. cost-grows))

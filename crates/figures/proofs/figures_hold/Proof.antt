@@ -1,7 +1,0 @@
--- `figures::figures_hold` meets its contract. Assumes nothing.
-use Rattle.figures.proofs.Hold.{figures-hold}
-use Rattle.figures.proofs.figures_hold.Statement.{statement}
-use Rattle.figures.proofs.figures_hold.Tie as tie
-
-pub figures-hold-spec : {M : Type 1} → statement M
-figures-hold-spec = tie.close (tie.spec (λ c. figures-hold))

@@ -1,6 +1,0 @@
-pub mod Adding
-pub mod Bounds
-pub mod Soundness
-pub mod Billing
-pub mod Verdicts
-pub mod Claimed

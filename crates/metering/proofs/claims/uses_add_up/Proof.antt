@@ -1,7 +1,0 @@
--- `metering::claims::uses_add_up` meets its contract. Assumes nothing.
-use Rattle.metering.proofs.Claimed.{uses-add-up}
-use Rattle.metering.proofs.claims.uses_add_up.Statement.{statement}
-use Rattle.metering.proofs.claims.uses_add_up.Tie as tie
-
-pub uses-add-up-spec : {M : Type 1} → statement M
-uses-add-up-spec = tie.close (tie.spec (λ c. uses-add-up))

@@ -1,0 +1,24 @@
+-- `presence::log::day_at` meets its contract. Assumes nothing.
+use Rattle.presence.proofs.Numbers.{day-at-is}
+use borrow.Author.Needs.{needs}
+use Rattle.presence.proofs.log.day_at.Statement.{statement}
+use Rattle.presence.proofs.log.day_at.Tie as tie
+
+returns : tie.Need-returns
+returns c = let d = c .before .before .before .before in
+    simp (c .units-at3 .ensures, c .before .units-at2 .ensures, c .before .before .units-at .ensures, day-at-is (d .args .i) (d .args .log .now) (d .pre))
+
+pub day-at-spec : {M : Type 1} → statement M
+day-at-spec =
+    tie.close
+    (tie.spec
+    (λ c. search needs)
+    (λ c. search needs)
+    (λ c. search needs)
+    (λ c. search needs)
+    (λ c κs. search needs)
+    (λ c. search needs)
+    (λ c κs. search needs)
+    (λ c. search needs)
+    (λ c κs. search needs)
+    returns)
