@@ -1,4 +1,4 @@
-//! Holds README.md's tables of refusal numbers to the words in refusals.txt and to the numbers that the definitions give:
+//! Holds README.md's list and table of refusal numbers to the words in refusals.txt and to the numbers that the definitions give:
 //! those of the claim in crates/refusals/specs/Order.antt, by operation and in order, and every `because N` in specs/.
 use crate::claims::{cells, is_rule, Outcome};
 use crate::folder;
@@ -8,13 +8,13 @@ use std::path::Path;
 
 const WORDS: &str = "refusals.txt";
 const ORDER: &str = "crates/refusals/specs/Order.antt";
-const NUMBERS_HEAD: [&str; 4] = ["number", "given by", "when", "what to correct"];
+const NUMBERS: &str = "## Refusal numbers";
 const ORDER_HEAD: [&str; 2] = ["operation", "its reasons, in order"];
 
 /// The numbers that each operation can answer, in the order of their reasons, by the operation's name.
 pub type Orders = BTreeMap<String, Vec<u32>>;
 
-/// A row of README's table of numbers.
+/// An item of README's list of numbers.
 #[derive(Debug, Clone, PartialEq, Eq)]
 pub struct Row {
     pub number: u32,
@@ -128,17 +128,43 @@ fn operation(name: &str) -> String {
     name.trim().to_lowercase().replace(' ', "-")
 }
 
+/// The items of README's list of numbers, each with the lines over which it goes on.
+fn items(text: &str) -> Result<Vec<String>, String> {
+    let mut found: Vec<String> = Vec::new();
+    let section = text.lines().skip_while(|line| *line != NUMBERS).skip(1);
+    for line in section.take_while(|line| !line.starts_with("## ")) {
+        if let Some(item) = line.strip_prefix("- ") {
+            found.push(item.to_string());
+        } else if let (Some(more), Some(item)) = (line.strip_prefix("  "), found.last_mut()) {
+            item.push(' ');
+            item.push_str(more.trim());
+        }
+    }
+    if found.is_empty() {
+        return Err(format!("README.md has no list under {NUMBERS}"));
+    }
+    Ok(found)
+}
+
+/// An item `**number**, operations: when. *words*`.
+fn number_row(item: &str) -> Result<Row, String> {
+    let fault = || format!("README.md: not `**number**, operations: when. *words*`: {item}");
+    let inner = item.strip_prefix("**").ok_or_else(fault)?;
+    let (number, rest) = inner.split_once("**, ").ok_or_else(fault)?;
+    let (operations, rest) = rest.split_once(": ").ok_or_else(fault)?;
+    let (_, words) = rest.split_once(". *").ok_or_else(fault)?;
+    let words = words.strip_suffix('*').ok_or_else(fault)?;
+    let operations = operations.split(';').next().unwrap_or("");
+    let parsed = number.parse();
+    Ok(Row {
+        number: parsed.map_err(|_| format!("README.md: no number: {number}"))?,
+        given_by: operations.split(',').map(operation).collect(),
+        words: words.to_string(),
+    })
+}
+
 pub fn number_rows(text: &str) -> Result<Vec<Row>, String> {
-    let row = |cells: &Vec<&str>| {
-        let operations = cells[1].split(';').next().unwrap_or("");
-        let number = cells[0].parse();
-        Ok(Row {
-            number: number.map_err(|_| format!("README.md: no number: {}", cells[0]))?,
-            given_by: operations.split(',').map(operation).collect(),
-            words: cells[3].to_string(),
-        })
-    };
-    table(text, &NUMBERS_HEAD)?.iter().map(row).collect()
+    items(text)?.iter().map(|item| number_row(item)).collect()
 }
 
 pub fn order_rows(text: &str) -> Result<Orders, String> {

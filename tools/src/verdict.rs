@@ -131,7 +131,8 @@ mod tests {
         assert!(matches!(judge(Some(1), out), Verdict::Hollow(_)));
         let out = "specs/Moves.antt:3:1: error: `f`: a type\nlogic=not-proved\n";
         assert!(matches!(judge(Some(1), out), Verdict::Hollow(_)));
-        let out = "proofs/f/Proof.antt:9:5: error: `f-spec`: this λ has 2 binders\nlogic=not-proved\n";
+        let out =
+            "proofs/f/Proof.antt:9:5: error: `f-spec`: this λ has 2 binders\nlogic=not-proved\n";
         assert!(matches!(judge(Some(1), out), Verdict::Hollow(_)));
     }
 

@@ -1,8 +1,8 @@
-//! Holds docs/EDITS.md to the tree: each edit is named in a row of its tables, each name there is an edit, each row has
-//! two or more, and the counts are right.
+//! Holds docs/EDITS.md to the tree: each edit is named in a row of its tables, each name there is an edit, each promise
+//! has two or more, in one row or in several, and the counts are right.
 use crate::claims::{cells, Outcome};
 use crate::folder;
-use std::collections::BTreeSet;
+use std::collections::{BTreeMap, BTreeSet};
 use std::fs;
 use std::path::Path;
 
@@ -44,6 +44,8 @@ fn names_in(dir: &Path) -> Vec<String> {
 pub fn faults(text: &str, tree: &Tree) -> Vec<String> {
     let known: BTreeSet<&String> = tree.must_fail.iter().chain(&tree.edits).collect();
     let (mut named, mut wrong) = (BTreeSet::new(), Vec::new());
+    // Where each promise stands first, and how many wrong programs it has.
+    let mut counts: BTreeMap<&str, (usize, usize)> = BTreeMap::new();
     for (i, row) in text
         .lines()
         .enumerate()
@@ -52,12 +54,7 @@ pub fn faults(text: &str, tree: &Tree) -> Vec<String> {
         let Some((promise, names)) = row_names(row) else {
             continue;
         };
-        if names.len() < 2 {
-            wrong.push(format!(
-                "line {}: {promise} has fewer than two wrong programs",
-                i + 1
-            ));
-        }
+        counts.entry(promise).or_insert((i + 1, 0)).1 += names.len();
         for (name, gate) in names {
             if !known.contains(&name) {
                 wrong.push(format!("line {}: there is no edit {name}", i + 1));
@@ -69,6 +66,11 @@ pub fn faults(text: &str, tree: &Tree) -> Vec<String> {
             }
             named.insert(name);
         }
+    }
+    for (promise, (line, _)) in counts.iter().filter(|(_, (_, names))| *names < 2) {
+        wrong.push(format!(
+            "line {line}: {promise} has fewer than two wrong programs"
+        ));
     }
     let unnamed = known.iter().filter(|name| !named.contains(**name));
     wrong.extend(unnamed.map(|name| format!("no row names the edit {name}")));

@@ -14,11 +14,12 @@ pub record ReasonsInOrder : Type 0 where
 ";
 
 const README: &str = "\
-| number | given by | when | what to correct |
-|---|---|---|---|
-| 0 | Top-up; before all others | it is broken | Open it again. |
-| 7 | Top-up | it is too much | Pay less. |
-| 17 | Open | it is too much | Ask less. |
+## Refusal numbers
+
+- **0**, Top-up; before all others: it is broken. *Open it again.*
+- **7**, Top-up: it is too much: more than all. *Pay
+  less.*
+- **17**, Open: it is too much. *Ask less.*
 
 | operation | its reasons, in order |
 |---|---|
@@ -61,22 +62,24 @@ fn right() {
 #[test]
 fn wrong_readme() {
     let tries = [
-        ("Pay less.", "Pay more.", "other words of 7"),
+        ("  less.*", "  more.*", "other words of 7"),
         (
-            "| 7 | Top-up | it is too much | Pay less. |\n",
+            "- **0**, Top-up; before all others: it is broken. *Open it again.*\n",
             "",
-            "the numbers [0, 17]",
+            "the numbers [7, 17]",
         ),
-        ("| 17 | Open |", "| 17 | Open, Top-up |", "17 is given by"),
+        ("**17**, Open:", "**17**, Open, Top-up:", "17 is given by"),
         (
             "| Top-up | 0, 7 |",
             "| Top-up | 7, 0 |",
             "the order of top-up",
         ),
         ("| Open | 17 |\n", "", "the order of open"),
-        ("| 7 | Top-up |", "| seven | Top-up |", "no number: seven"),
-        ("| number |", "| numbers |", "has no table"),
-        ("| Pay less. |", "| Pay | less. |", "a row of other cells"),
+        ("**7**, Top-up", "**seven**, Top-up", "no number: seven"),
+        ("## Refusal numbers", "## Numbers", "has no list under"),
+        ("| operation |", "| operations |", "has no table"),
+        ("| 0, 7 |", "| 0 | 7 |", "a row of other cells"),
+        ("*Ask less.*", "Ask less.", "not `**number**"),
     ];
     all_tell(README, &tries, |readme| faults(readme, WORDS, ORDER));
 }

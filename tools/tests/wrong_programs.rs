@@ -8,7 +8,8 @@ There are 1 +
 | promise | wrong programs |
 |---|---|
 | a::f | `one_less` (m), `one_more` of `b` |
-| a::g | `one_less`, `two_more` |
+| a::g | `one_less` |
+| a::g | `two_more` |
 ";
 
 fn tree() -> Tree {
@@ -33,7 +34,7 @@ fn wrong() {
             "there is no edit no_more",
         ),
         (
-            TEXT.replace(", `two_more`", ""),
+            TEXT.replace("| a::g | `two_more` |\n", ""),
             "line 7: a::g has fewer than two",
         ),
         (
