@@ -21,6 +21,10 @@ const AFFORD_EVERY: u64 = 10;
 /// Afford of outgoing seconds is compared at the end of every trip or file that
 /// ends in the zone and has at most so many bytes.
 const AFFORD_UP_TO: usize = 12_000;
+/// Calls that come one by one are compared after every fifth trip or file.
+const MORE_EVERY: u64 = 5;
+/// At most so many of them.
+const MORE_CALLS: u64 = 40;
 /// Every twentieth trip is paired with two or three lists that have the same cuts.
 const PAIRS_EVERY: u64 = 20;
 /// Files up to this length are also asked for with a list too short.
@@ -91,6 +95,8 @@ pub struct Differ {
     pub days: u64,
     /// Calls replayed by the other meter, those before an Afford included.
     pub calls: u64,
+    /// Calls that came one by one after a file.
+    pub one_by_one: u64,
     pub longest: usize,
     pub times: Times,
 }
@@ -105,6 +111,7 @@ impl Differ {
             writes: 0,
             days: 0,
             calls: 0,
+            one_by_one: 0,
             longest: 0,
             times: Times::default(),
         }
@@ -222,6 +229,10 @@ impl Differ {
             self.calls += calls as u64;
             let asked = self.afford(file, &ran, *kind, rng, events);
             asked.map_err(differs)?;
+        }
+        if (self.trips + self.files).is_multiple_of(MORE_EVERY) {
+            self.calls += calls as u64;
+            self.more(file, rng).map_err(differs)?;
         }
         Ok(ours.err().unwrap_or(0))
     }
@@ -356,11 +367,45 @@ impl Differ {
             Err(number) => FILE_REFUSED + u64::from(*number),
         };
         let times = rng.between(1, 3);
+        let ask = match rng.below(2) {
+            0 => self.other.afford,
+            _ => self.other.afford_by_value,
+        };
         let begun = Instant::now();
-        let theirs = (self.other.afford)(file, kind, times);
+        let theirs = ask(file, kind, times);
         self.times.other += begun.elapsed();
         if ours != theirs {
             return Err(format!("Afford of {kind:?} answered {theirs}, not {ours}"));
+        }
+        Ok(())
+    }
+
+    /// Calls after the file's, one by one: some of its own bytes again, of which
+    /// one word may be another, and at times a rest of fewer than eight.
+    fn more(&mut self, file: &[u8], rng: &mut Rng) -> Result<(), Failure> {
+        let body = file.get(BEFORE_CALLS..).unwrap_or_default();
+        let most = (body.len() / 8) as u64;
+        let first = rng.below(most + 1);
+        let count = rng.below((most - first).min(MORE_CALLS) + 1);
+        let mut more = body[8 * first as usize..][..8 * count as usize].to_vec();
+        if count > 0 && rng.below(2) == 0 {
+            let at = 4 * rng.below(2 * count) as usize;
+            more[at..at + 4].copy_from_slice(&(rng.below(10) as u32).to_le_bytes());
+        }
+        more.resize(more.len() + rng.below(8) as usize, 1);
+        let (mut ours, mut theirs) = ([5; 11], [5; 11]);
+        let begun = Instant::now();
+        let our_number = (REFERENCE.calls)(file, &more, &mut ours);
+        self.times.reference += begun.elapsed();
+        let begun = Instant::now();
+        let number = (self.other.calls)(file, &more, &mut theirs);
+        self.times.other += begun.elapsed();
+        self.one_by_one += count;
+        if (our_number, ours) != (number, theirs) {
+            let what = "calls one by one after the file answered";
+            return Err(format!(
+                "{what} {number}, {theirs:?}, not {our_number}, {ours:?}"
+            ));
         }
         Ok(())
     }

@@ -7,7 +7,16 @@ use crate::terms::Kind;
 
 extern "C" {
     fn meter_statement(file: *const u8, file_len: usize, out: *mut u64, out_len: usize) -> u64;
+    fn meter_calls(
+        file: *const u8,
+        file_len: usize,
+        more: *const u8,
+        more_len: usize,
+        out: *mut u64,
+        out_len: usize,
+    ) -> u64;
     fn meter_afford(file: *const u8, file_len: usize, kind: u64, times: u64) -> u64;
+    fn meter_afford_by_value(file: *const u8, file_len: usize, kind: u64, times: u64) -> u64;
     fn meter_write(
         plan: *const u64,
         codes: *const u32,
@@ -28,7 +37,9 @@ pub const SIDE: Side = Side {
     statement,
     write,
     find,
+    calls,
     afford,
+    afford_by_value,
     search,
 };
 
@@ -37,9 +48,28 @@ pub fn statement(file: &[u8], out: &mut [u64]) -> u64 {
     unsafe { meter_statement(file.as_ptr(), file.len(), out.as_mut_ptr(), out.len()) }
 }
 
+pub fn calls(file: &[u8], more: &[u8], out: &mut [u64]) -> u64 {
+    // SAFETY: all three slices are whole, and the meter keeps none of them.
+    unsafe {
+        meter_calls(
+            file.as_ptr(),
+            file.len(),
+            more.as_ptr(),
+            more.len(),
+            out.as_mut_ptr(),
+            out.len(),
+        )
+    }
+}
+
 pub fn afford(file: &[u8], kind: Kind, times: u64) -> u64 {
     // SAFETY: the slice is whole, and the meter does not keep it.
     unsafe { meter_afford(file.as_ptr(), file.len(), kind as u64, times) }
+}
+
+pub fn afford_by_value(file: &[u8], kind: Kind, times: u64) -> u64 {
+    // SAFETY: the slice is whole, and the meter does not keep it.
+    unsafe { meter_afford_by_value(file.as_ptr(), file.len(), kind as u64, times) }
 }
 
 pub fn write(plan: &[u64; 7], codes: &[u32], numbers: &[u32], buffer: &mut [u8]) -> u64 {

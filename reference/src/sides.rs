@@ -4,9 +4,9 @@
 use crate::caps::{self, Search};
 use crate::meter::{Account, Answer};
 use crate::plan::{Plan, UNLIMITED};
-use crate::statement::{figures_of, run};
-use crate::terms::Kind;
-use crate::tripfile;
+use crate::statement::{figures, figures_of, run};
+use crate::terms::{Call, Kind};
+use crate::tripfile::{self, CallReader};
 use crate::writes::Writer;
 use std::hint::black_box;
 
@@ -28,6 +28,9 @@ pub struct Found {
     pub sum: u32,
 }
 
+/// A file, a kind, and how often it is asked for.
+pub type Afford = fn(&[u8], Kind, u64) -> u64;
+
 /// A meter.
 #[derive(Clone, Copy, Debug)]
 pub struct Side {
@@ -40,8 +43,16 @@ pub struct Side {
     pub write: Writer,
     /// The section of a kind.
     pub find: fn(&[u8], u32) -> Found,
-    /// Afford of a kind after the file's calls, asked that many times.
-    pub afford: fn(&[u8], Kind, u64) -> u64,
+    /// Runs the file, then the calls of a calls section one by one, each with
+    /// its soundness check. The ten figures of the end, put into the list, and
+    /// 0; refused calls are those of the section alone. Or the file's number,
+    /// the list then unchanged.
+    pub calls: fn(&[u8], &[u8], &mut [u64]) -> u64,
+    /// Afford of a kind after the file's calls, asked that many times of an
+    /// account that is lent.
+    pub afford: Afford,
+    /// The same, of an account that is taken by value and handed back.
+    pub afford_by_value: Afford,
     /// The caps of any day, and how many rows were read for them.
     pub search: fn(u64) -> Search,
 }
@@ -51,7 +62,9 @@ pub const REFERENCE: Side = Side {
     statement,
     write,
     find,
+    calls,
     afford,
+    afford_by_value,
     search: caps::search,
 };
 
@@ -97,16 +110,61 @@ fn find(file: &[u8], kind: u32) -> Found {
     }
 }
 
+/// The account that a file leads to, or the file's number.
+fn account_after(file: &[u8]) -> Result<Account, u32> {
+    let (account, _) = run(&tripfile::read(file)?)?;
+    Ok(account)
+}
+
+fn calls(file: &[u8], more: &[u8], out: &mut [u64]) -> u64 {
+    let Some(room) = out.first_chunk_mut() else {
+        return NO_ROOM;
+    };
+    let mut account = match account_after(file) {
+        Ok(account) => account,
+        Err(number) => return u64::from(number),
+    };
+    // A code that stands for no call is a refused one.
+    let mut refuses = |(code, number)| {
+        let call = Call::from_words(code, number);
+        call.is_none_or(|call| account.apply(call).is_err())
+    };
+    let refused = CallReader::new(more).filter(|words| refuses(*words));
+    let refused = refused.count();
+    *room = figures(&account, refused);
+    0
+}
+
 fn afford(file: &[u8], kind: Kind, times: u64) -> u64 {
-    let outcome = tripfile::read(file).and_then(|trip| run(&trip));
-    let account = match outcome {
-        Ok((account, _)) => account,
+    let account = match account_after(file) {
+        Ok(account) => account,
         Err(number) => return FILE_REFUSED + u64::from(number),
     };
     for _ in 1..times {
         black_box(black_box(&account).afford(kind).ok());
     }
     afford_answer(&account, kind)
+}
+
+fn afford_by_value(file: &[u8], kind: Kind, times: u64) -> u64 {
+    let mut account = match account_after(file) {
+        Ok(account) => account,
+        Err(number) => return FILE_REFUSED + u64::from(number),
+    };
+    for _ in 1..times {
+        let (same, answer) = asked_by_value(black_box(account), kind);
+        account = black_box(same);
+        black_box(answer);
+    }
+    afford_answer(&account, kind)
+}
+
+/// Afford of an account that is handed back with the answer. What moves is the
+/// account without the days of its log, which is a list elsewhere in memory.
+#[inline(never)]
+fn asked_by_value(account: Account, kind: Kind) -> (Account, u64) {
+    let answer = afford_answer(&account, kind);
+    (account, answer)
 }
 
 /// Afford's answer as one number.

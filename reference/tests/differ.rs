@@ -263,6 +263,32 @@ fn an_afford_of_1_second_in_place_of_0_is_found() {
 }
 
 #[test]
+fn an_afford_by_value_that_gives_up_early_is_found() {
+    let afford_by_value = |file: &[u8], kind: Kind, times: u64| match (REFERENCE.afford_by_value)(
+        file, kind, times,
+    ) {
+        n @ 1..=999_999_999 => n - 1,
+        answer => answer,
+    };
+    let other = Side {
+        afford_by_value,
+        ..REFERENCE
+    };
+    assert!(found(other).starts_with("Afford of "));
+}
+
+/// Calls one by one of which the last is left out.
+#[test]
+fn a_call_left_out_after_a_file_is_found() {
+    let calls = |file: &[u8], more: &[u8], out: &mut [u64]| {
+        let fewer = more.len().saturating_sub(8);
+        (REFERENCE.calls)(file, &more[..fewer], out)
+    };
+    let other = Side { calls, ..REFERENCE };
+    assert!(found(other).starts_with("calls one by one after the file answered"));
+}
+
+#[test]
 fn every_day_is_compared() {
     let mut differ = Differ::new(REFERENCE);
     differ.days(1).expect("the same search");

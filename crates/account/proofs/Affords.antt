@@ -3,7 +3,6 @@ use Prim.Native.Nat.{ℕ}
 use mathlib.Core.Path.{_≡_, refl, sym, _∙_, ap}
 use mathlib.Core.Bool.{Bool, true, false, cond}
 use Rattle.tariff.specs.declared.Kind.{Kind}
-use Rattle.tariff.specs.declared.Verdict.the-variants.{Refused}
 use Rattle.tariff.specs.Tests.{verdict-of}
 use Rattle.presence.specs.Day.{is-placed}
 use Rattle.account.specs.Largest.{use-accepted, most-units}

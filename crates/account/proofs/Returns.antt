@@ -1,12 +1,14 @@
 -- What the calls return, reason by reason. Assumes nothing.
 use Prim.Native.Nat.{ℕ, _+_, _≤_, _<_}
-use mathlib.Core.Path.{_≡_, refl}
+use mathlib.Core.Path.{_≡_, refl, sym, _∙_}
 use mathlib.Core.Bool.{Bool, true, false, cond}
 use mathlib.Core.List.{List}
-use lib.ListN.{length}
+use lib.ListN.{length, replicate}
 use borrow.Author.Tests.{lt-ltb, le-ltb, le-leb, lt-leb}
 use Rattle.tariff.specs.declared.Kind.{Kind}
 use Rattle.tariff.specs.declared.Place.{Place}
+use Rattle.tariff.specs.declared.Plan.{Plan}
+use Rattle.tariff.specs.Plan.{plan-verdict}
 use Rattle.tariff.specs.Tests.{between, verdict-of, is-accepted}
 use Rattle.tariff.specs.Units.{only}
 use Rattle.presence.specs.Day.{joined}
@@ -19,11 +21,13 @@ use Rattle.state.specs.Moves.{registered, topped, next-state-of}
 use Rattle.state.specs.Reasons.{use-reasons, top-up-reasons, next-day-reasons, use-state}
 use Rattle.account.specs.declared.Account.{Account}
 use Rattle.account.specs.declared.Applied.{Applied}
+use Rattle.account.specs.declared.Opened.{Opened}
+use Rattle.account.specs.declared.StateOpened.{StateOpened}
 use Rattle.account.specs.declared.Call.{Call}
 use Rattle.account.specs.declared.Call.the-variants.{Register, Use, TopUp, NextDay, Afford}
-use Rattle.account.specs.Whole.{sound, spend, register-at, top-up-by, day-after}
+use Rattle.account.specs.Whole.{sound, opened, spend, register-at, top-up-by, day-after}
 use Rattle.account.specs.Calls.{own-reasons, reasons, verdict, accepts, after, step}
-use Rattle.account.specs.Answers.{accepted-answer, applied}
+use Rattle.account.specs.Answers.{no-plan, open-answer, opened-parts, accepted-answer, applied}
 
 either : (b : Bool) (a : Account) (x : State) → _≡_ {A = Account} (record { state = cond b x (a .state); log = a .log }) (cond b (record { state = x; log = a .log }) a)
 either true a x = refl
@@ -70,6 +74,25 @@ module _ (a : Account) (s : sound a ≡ true) where
       (applied a NextDay)
   unfolding applied accepted-answer verdict reasons own-reasons verdict-of step accepts next-day-reasons after day-after
   next-yes h = rw (s, lt-leb _ _ h) refl
+
+-- Open hands out an empty log, whether it accepts or not
+empty-log : (p : Plan) → open-answer p .account .log ≡ replicate 1599 0
+unfolding open-answer opened
+empty-log p = go (is-accepted (plan-verdict p))
+  where
+    go : (b : Bool) → cond b (opened p) (opened no-plan) .log ≡ replicate 1599 0
+    go true = refl
+    go false = refl
+
+pub opened-whole : (p : Plan) (r : StateOpened) (l : List ℕ) → r ≡ opened-parts (open-answer p) → l ≡ replicate 1599 0
+    → _≡_ {A = Opened} (record { answer = r .answer; account = record { state = r .state; log = l } }) (open-answer p)
+opened-whole p r l e f =
+    let g : l ≡ open-answer p .account .log = f ∙ sym (empty-log p) in
+    λ i. record { answer = e i .answer; account = record { state = e i .state; log = g i } }
+
+-- the log after a call
+abbrev pub log-of : Applied → List ℕ
+log-of x = x .account .log
 
 -- only a day change touches the log
 kept : (b : Bool) (a x : Account) → x .log ≡ a .log → cond b x a .log ≡ a .log

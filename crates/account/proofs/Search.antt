@@ -1,23 +1,23 @@
 -- Acceptance falls as a use grows, so that halving finds the largest. Assumes nothing.
 use Prim.Native.Nat.{ℕ, zero, suc, _-_, _≤_, _<_}
-use mathlib.Core.Path.{_≡_, refl, sym, _∙_, ap}
+use mathlib.Core.Path.{_≡_, refl, sym, _∙_}
 use mathlib.Core.Bool.{Bool, true, false, not, cond, _&&_}
 use native.Mathlib.Omega.{arith}
 use lib.Dec.{leb, ltb, eqb}
-use borrow.Author.Tests.{leb-true, leb-false, ltb-false, le-leb, lt-leb, lt-ltb, le-ltb, eqb-true, eqb-false}
+use borrow.Author.Tests.{le-leb, lt-leb, eqb-true, eqb-false}
 use Rattle.tariff.specs.declared.Kind.{Kind}
 use Rattle.tariff.specs.declared.Verdict.the-variants.{Accepted, Refused}
 use Rattle.tariff.specs.Tests.{verdict-of, is-accepted}
-use Rattle.tariff.specs.Units.{AtMost}
-use Rattle.tariff.proofs.Tests.{and-left, and-right, and-false, not-true}
+use Rattle.tariff.proofs.Tests.{and-false}
 use Rattle.presence.specs.Day.{is-placed}
 use Rattle.state.specs.declared.State.{State}
+use Rattle.quotes.specs.declared.Quote.{Quote}
+use Rattle.state.specs.Needs.{Steady}
+use Rattle.quotes.specs.Quotes.{quote-of, within-quote}
+use Rattle.quotes.proofs.Quoting.{within-is, within-less}
 use Rattle.state.specs.Use.{charged-units, cost}
 use Rattle.state.specs.Reasons.{overfills, use-reasons}
-use Rattle.state.proofs.Bounds.{charged-order}
-use Rattle.state.proofs.Verdicts.{Room, has-room, room-enough}
-use Rattle.account.specs.Largest.{largest, use-accepted}
-use Rattle.state.proofs.Growth.{cost-grows}
+use Rattle.account.specs.Largest.{largest, use-accepted, most-units}
 
 -- r is the largest that passes, from 1 to n
 pub largest-is : (test : ℕ → Bool) (n r : ℕ) → r ≤ n → (0 < r → test r ≡ true) → ((m : ℕ) → r < m → m ≤ n → test m ≡ false) → r ≡ largest test n
@@ -87,41 +87,28 @@ module _ (a : State) (k : Kind) where
       go true = refl
       go false = refl
 
-  fits-less : (m n : ℕ) → m ≤ n → fits-sums a k n ≡ true → fits-sums a k m ≡ true
-  fits-less m n h e =
-      let u = charged-units (a .place) k m in
-      let v = charged-units (a .place) k n in
-      let b = overfills a k n in
-      let c = ltb (a .money .credit) (cost a v) in
-      let r : Room a k n = has-room a k n (not-true b (and-left (not b) (not c) e)) in
-      let o = ltb-false (a .money .credit) (cost a v) (not-true c (and-right (not b) (not c) e)) in
-      let g : AtMost u v = charged-order (a .place) k m n h in
-      simp (
-        room-enough a k m record { units = omega (arith, r .units); seconds = omega (arith, r .seconds, g .outgoing) },
-        le-ltb (a .money .credit) (cost a u) (omega (arith, cost-grows a u v g)),
-      )
-
-  -- a larger use than a refused one is refused
-  pub refused-on : (m n : ℕ) → is-placed (a .place) ≡ true → 1 ≤ m → m ≤ n → m ≤ 1000000000 → use-accepted a k m ≡ false → use-accepted a k n ≡ false
-  refused-on m n p s h t e = go (leb n 1000000000) refl (fits-sums a k n) refl
-    where
-      go : (b : Bool) → leb n 1000000000 ≡ b → (c : Bool) → fits-sums a k n ≡ c → use-accepted a k n ≡ false
-      go true f true g =
-          let l = leb-true n 1000000000 f in
-          accepted-is n p (omega arith) l ∙ g ∙ sym (fits-less m n h g) ∙ sym (accepted-is m p s t) ∙ e
-      go true f false g = accepted-is n p (omega arith) (leb-true n 1000000000 f) ∙ g
-      go false f c g = refused-many n (leb-false n 1000000000 f)
+  -- such a use is accepted just where it is within the kind's own figures
+  pub accepted-quoted : (n : ℕ) → Steady a → is-placed (a .place) ≡ true → 1 ≤ n → n ≤ 1000000000 → use-accepted a k n ≡ within-quote (quote-of a k) n
+  accepted-quoted n s p l f = accepted-is n p l f ∙ sym (within-is a k n s f)
 
 -- what is known while the answer lies from lo to hi
-pub record Between (a : State) (k : Kind) (lo hi : ℕ) : Type 0 where
+pub record Between (q : Quote) (lo hi : ℕ) : Type 0 where
   pub order : lo ≤ hi
   pub top : hi ≤ 1000000000
-  pub passes : 0 < lo → use-accepted a k lo ≡ true
-  pub none : (m : ℕ) → hi < m → use-accepted a k m ≡ false
+  pub passes : 0 < lo → within-quote q lo ≡ true
+  pub none : (m : ℕ) → hi < m → m ≤ 1000000000 → within-quote q m ≡ false
 
-pub leb-not : (x y : ℕ) → leb x y ≡ not (ltb y x)
-leb-not x y = go (leb x y) refl
+-- a larger amount than a refused one is refused
+pub refused-on : (q : Quote) (m n : ℕ) → m ≤ n → within-quote q m ≡ false → within-quote q n ≡ false
+refused-on q m n h e = go (within-quote q n) refl
   where
-    go : (b : Bool) → leb x y ≡ b → leb x y ≡ not (ltb y x)
-    go true e = e ∙ sym (ap not (le-ltb y x (leb-true x y e)))
-    go false e = e ∙ sym (ap not (lt-ltb y x (leb-false x y e)))
+    go : (b : Bool) → within-quote q n ≡ b → b ≡ false
+    go true f = sym (within-less q m n h f) ∙ e
+    go false f = refl
+
+pub most-is : (a : State) (k : Kind) (lo hi : ℕ) → Steady a → is-placed (a .place) ≡ true → Between (quote-of a k) lo hi → hi ≤ lo → lo ≡ most-units a k
+unfolding most-units
+most-is a k lo hi s p b h =
+    largest-is (use-accepted a k) 1000000000 lo (omega (arith, b .order, b .top))
+    (λ l. accepted-quoted a k lo s p (omega arith) (omega (arith, b .order, b .top)) ∙ b .passes l)
+    (λ m l t. accepted-quoted a k m s p (omega arith) t ∙ b .none m (omega (arith, b .order)) t)

@@ -16,6 +16,7 @@ use Rattle.state.specs.Use.{charged-units, charge-of}
 use Rattle.state.specs.Reasons.{answer-by}
 use Rattle.account.specs.declared.Account.{Account}
 use Rattle.account.specs.declared.Opened.{Opened}
+use Rattle.account.specs.declared.StateOpened.{StateOpened}
 use Rattle.account.specs.declared.Applied.{Applied}
 use Rattle.account.specs.declared.Call.{Call}
 use Rattle.account.specs.declared.Call.the-variants.{Register, Use, TopUp, NextDay, Afford}
@@ -34,6 +35,10 @@ open-answer p = record {
   answer = plan-verdict p;
   account = cond (is-accepted (plan-verdict p)) (opened p) (opened no-plan);
 }
+
+-- the same answer with all of the account but its log, which is empty
+abbrev pub opened-parts : Opened → StateOpened
+opened-parts x = record { answer = x .answer; state = x .account .state }
 
 -- Afford's number: the largest n that a use of the kind is accepted for, 0 if there is none. No n over 1,000,000,000 is
 -- accepted.

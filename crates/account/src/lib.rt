@@ -11,12 +11,11 @@ use tariff::Place;
 use tariff::Plan;
 use tariff::Verdict;
 ghost use mathlib.Core.Path.{_≡_};
-ghost use mathlib.Core.Bool.{false};
-ghost use Rattle.account.specs.Whole.{sound, opened};
-ghost use Rattle.state.specs.Needs.{Payable};
+ghost use mathlib.Core.Bool.{true, false};
+ghost use Rattle.account.specs.Whole.{sound};
 ghost use lib.ListN.{length};
 ghost use Rattle.account.specs.Calls.{step};
-ghost use Rattle.account.specs.Answers.{open-answer, applied, account-of, applied-state};
+ghost use Rattle.account.specs.Answers.{open-answer, opened-parts, applied, account-of, applied-state};
 
 // All but the log, and the log of the last 123 days, newest first, 13 numbers to a day; past the logged days it is
 // empty.
@@ -40,21 +39,45 @@ pub struct Opened {
     pub account: Account,
 }
 
+// The same with all of the account but its log.
+pub struct StateOpened {
+    pub answer: Verdict,
+    pub state: State,
+}
+
 // What a call answers, with the account.
 pub struct Applied {
     pub answer: Answer,
     pub account: Account,
 }
 
-fn opened_account(p: Plan) -> Account
-    requires { ⌜ Payable p ⌝ }
-    ensures { λ r. ⌜ r ≡ opened p ⌝ }
+// Open, of all but the log, which is empty: refusals 1, 17, 18 and 2. A refused plan leaves an account that is not
+// sound.
+pub fn open_with(p: Plan) -> StateOpened
+    ensures { λ r. ⌜ r ≡ opened-parts (open-answer p) ⌝ }
 {
-    let state = state::moves::opened_with(p);
-    let log = presence::log::log_empty();
-    Account {
-        state: state,
-        log: log,
+    let verdict = tariff::plans::check_plan(p);
+    match verdict {
+        Verdict::Accepted => StateOpened {
+            answer: Verdict::Accepted,
+            state: state::moves::opened_with(p),
+        },
+        Verdict::Refused(n) => {
+            let form = Form::Prepaid;
+            let none = Plan {
+                form: form,
+                start: 0,
+                pergb: 0,
+                perminute: 0,
+                persms: 0,
+                fee: 0,
+                volume: 0,
+            };
+            StateOpened {
+                answer: Verdict::Refused(n),
+                state: state::moves::opened_with(none),
+            }
+        }
     }
 }
 
@@ -62,7 +85,7 @@ fn opened_account(p: Plan) -> Account
 // the log stays where it is.
 
 // Is the account sound? Any values will do.
-fn parts_fit(state: State, log: &[u64; 1599]) -> bool
+pub fn parts_fit(state: State, log: &[u64; 1599]) -> bool
     ensures { λ r. ⌜ r ≡ sound (account-of state (now (log .entry))) ⌝ }
 {
     if !state::sound::counters_fit(state) {
@@ -72,6 +95,18 @@ fn parts_fit(state: State, log: &[u64; 1599]) -> bool
         return false;
     }
     presence::log::log_fits(log, state.today, state.logged, state.meters.lifetime)
+}
+
+// A registration on a sound account.
+fn register_sound(state: State, log: &[u64; 1599], p: Place) -> StateApplied
+    requires { ⌜ sound (account-of state (now log)) ≡ true ⌝ }
+    ensures { λ r. ⌜ r ≡ applied-state (applied (account-of state (now (log .entry))) (Call.Register p)) ⌝ }
+{
+    let next = state::moves::registered_at(state, p);
+    StateApplied {
+        answer: Answer::Done,
+        state: next,
+    }
 }
 
 // Refusal 0.
@@ -84,11 +119,15 @@ pub fn register_with(state: State, log: &[u64; 1599], p: Place) -> StateApplied
             state: state,
         };
     }
-    let next = state::moves::registered_at(state, p);
-    StateApplied {
-        answer: Answer::Done,
-        state: next,
-    }
+    register_sound(state, log, p)
+}
+
+// A use on a sound account: refusals 3, 4, 5, 6.
+fn use_sound(state: State, log: &[u64; 1599], k: Kind, n: u64) -> StateApplied
+    requires { ⌜ sound (account-of state (now log)) ≡ true ⌝ }
+    ensures { λ r. ⌜ r ≡ applied-state (applied (account-of state (now (log .entry))) (Call.Use k n)) ⌝ }
+{
+    state::charging::use_of(state, k, n)
 }
 
 // Refusals 0, 3, 4, 5, 6.
@@ -101,19 +140,14 @@ pub fn use_with(state: State, log: &[u64; 1599], k: Kind, n: u64) -> StateApplie
             state: state,
         };
     }
-    state::charging::use_of(state, k, n)
+    use_sound(state, log, k, n)
 }
 
-// Refusals 0, 7, 8.
-pub fn top_up_with(state: State, log: &[u64; 1599], n: u64) -> StateApplied
+// A top-up of a sound account: refusals 7, 8.
+fn top_up_sound(state: State, log: &[u64; 1599], n: u64) -> StateApplied
+    requires { ⌜ sound (account-of state (now log)) ≡ true ⌝ }
     ensures { λ r. ⌜ r ≡ applied-state (applied (account-of state (now (log .entry))) (Call.TopUp n)) ⌝ }
 {
-    if !parts_fit(state, log) {
-        return StateApplied {
-            answer: Answer::Refused(0),
-            state: state,
-        };
-    }
     if !state::charging::within(1, n, 10000000) {
         return StateApplied {
             answer: Answer::Refused(7),
@@ -133,11 +167,9 @@ pub fn top_up_with(state: State, log: &[u64; 1599], n: u64) -> StateApplied
     }
 }
 
-// Refusals 0, 9.
-pub fn next_day_with(state: State, log: &mut [u64; 1599]) -> StateApplied
-    requires { ⌜ length (now log) ≡ 1599 ⌝ }
-    ensures answer { λ r. ⌜ r ≡ applied-state (applied (account-of state (now (log .entry))) Call.NextDay) ⌝ }
-    ensures shifted { λ _. ⌜ now (log .exit) ≡ step (account-of state (now (log .entry))) Call.NextDay .log ⌝ }
+// Refusals 0, 7, 8.
+pub fn top_up_with(state: State, log: &[u64; 1599], n: u64) -> StateApplied
+    ensures { λ r. ⌜ r ≡ applied-state (applied (account-of state (now (log .entry))) (Call.TopUp n)) ⌝ }
 {
     if !parts_fit(state, log) {
         return StateApplied {
@@ -145,6 +177,15 @@ pub fn next_day_with(state: State, log: &mut [u64; 1599]) -> StateApplied
             state: state,
         };
     }
+    top_up_sound(state, log, n)
+}
+
+// A day change of a sound account: refusal 9.
+fn next_day_sound(state: State, log: &mut [u64; 1599]) -> StateApplied
+    requires { ⌜ (length (now log) ≡ 1599) × (sound (account-of state (now log)) ≡ true) ⌝ }
+    ensures answer { λ r. ⌜ r ≡ applied-state (applied (account-of state (now (log .entry))) Call.NextDay) ⌝ }
+    ensures shifted { λ _. ⌜ now (log .exit) ≡ step (account-of state (now (log .entry))) Call.NextDay .log ⌝ }
+{
     if state.day >= 3833 {
         return StateApplied {
             answer: Answer::Refused(9),
@@ -159,6 +200,34 @@ pub fn next_day_with(state: State, log: &mut [u64; 1599]) -> StateApplied
     }
 }
 
+// Refusals 0, 9.
+pub fn next_day_with(state: State, log: &mut [u64; 1599]) -> StateApplied
+    requires { ⌜ length (now log) ≡ 1599 ⌝ }
+    ensures answer { λ r. ⌜ r ≡ applied-state (applied (account-of state (now (log .entry))) Call.NextDay) ⌝ }
+    ensures shifted { λ _. ⌜ now (log .exit) ≡ step (account-of state (now (log .entry))) Call.NextDay .log ⌝ }
+{
+    if !parts_fit(state, log) {
+        return StateApplied {
+            answer: Answer::Refused(0),
+            state: state,
+        };
+    }
+    next_day_sound(state, log)
+}
+
+// Afford on a sound account: refusal 3.
+fn afford_sound(state: State, log: &[u64; 1599], k: Kind) -> Answer
+    requires { ⌜ sound (account-of state (now log)) ≡ true ⌝ }
+    ensures { λ r. ⌜ r ≡ applied (account-of state (now (log .entry))) (Call.Afford k) .answer ⌝ }
+{
+    let place = state.place;
+    if !presence::days::placed(place) {
+        return Answer::Refused(3);
+    }
+    let n = afford::most_of(state, k);
+    Answer::UpTo(n)
+}
+
 // Refusals 0, 3.
 pub fn afford_with(state: State, log: &[u64; 1599], k: Kind) -> Answer
     ensures { λ r. ⌜ r ≡ applied (account-of state (now (log .entry))) (Call.Afford k) .answer ⌝ }
@@ -166,12 +235,7 @@ pub fn afford_with(state: State, log: &[u64; 1599], k: Kind) -> Answer
     if !parts_fit(state, log) {
         return Answer::Refused(0);
     }
-    let place = state.place;
-    if !presence::days::placed(place) {
-        return Answer::Refused(3);
-    }
-    let n = afford::most_of(state, k);
-    Answer::UpTo(n)
+    afford_sound(state, log, k)
 }
 
 // Afford's answer, which changes nothing.
@@ -184,19 +248,35 @@ fn afford_applied(state: State, x: Answer) -> StateApplied
     }
 }
 
+// One call of any kind on an account that is known to be sound, so that it need not be looked at again: every call
+// leaves it sound.
+pub fn call_sound(state: State, log: &mut [u64; 1599], c: Call) -> StateApplied
+    requires { ⌜ (length (now log) ≡ 1599) × (sound (account-of state (now log)) ≡ true) ⌝ }
+    ensures answer { λ r. ⌜ r ≡ applied-state (applied (account-of state (now (log .entry))) c) ⌝ }
+    ensures shifted { λ _. ⌜ now (log .exit) ≡ step (account-of state (now (log .entry))) c .log ⌝ }
+{
+    match c {
+        Call::Register(p) => register_sound(state, log, p),
+        Call::Use(k, n) => use_sound(state, log, k, n),
+        Call::TopUp(n) => top_up_sound(state, log, n),
+        Call::NextDay => next_day_sound(state, log),
+        Call::Afford(k) => afford_applied(state, afford_sound(state, log, k)),
+    }
+}
+
 // One call of any kind.
 pub fn call_with(state: State, log: &mut [u64; 1599], c: Call) -> StateApplied
     requires { ⌜ length (now log) ≡ 1599 ⌝ }
     ensures answer { λ r. ⌜ r ≡ applied-state (applied (account-of state (now (log .entry))) c) ⌝ }
     ensures shifted { λ _. ⌜ now (log .exit) ≡ step (account-of state (now (log .entry))) c .log ⌝ }
 {
-    match c {
-        Call::Register(p) => register_with(state, log, p),
-        Call::Use(k, n) => use_with(state, log, k, n),
-        Call::TopUp(n) => top_up_with(state, log, n),
-        Call::NextDay => next_day_with(state, log),
-        Call::Afford(k) => afford_applied(state, afford_with(state, log, k)),
+    if !parts_fit(state, log) {
+        return StateApplied {
+            answer: Answer::Refused(0),
+            state: state,
+        };
     }
+    call_sound(state, log, c)
 }
 
 // One call of any kind on a whole account.
@@ -219,28 +299,17 @@ impl Account {
     pub fn open(p: Plan) -> Opened
         ensures { λ r. ⌜ r ≡ open-answer p ⌝ }
     {
-        let verdict = tariff::plans::check_plan(p);
-        match verdict {
-            Verdict::Accepted => Opened {
-                answer: Verdict::Accepted,
-                account: opened_account(p),
-            },
-            Verdict::Refused(n) => {
-                let form = Form::Prepaid;
-                let none = Plan {
-                    form: form,
-                    start: 0,
-                    pergb: 0,
-                    perminute: 0,
-                    persms: 0,
-                    fee: 0,
-                    volume: 0,
-                };
-                Opened {
-                    answer: Verdict::Refused(n),
-                    account: opened_account(none),
-                }
-            }
+        let opened = open_with(p);
+        let answer = opened.answer;
+        let state = opened.state;
+        let log = presence::log::log_empty();
+        let account = Account {
+            state: state,
+            log: log,
+        };
+        Opened {
+            answer: answer,
+            account: account,
         }
     }
 
@@ -272,17 +341,13 @@ impl Account {
         ensures { λ r. ⌜ r ≡ applied self (Call.Use k n) ⌝ }
     {
         let state = self.state;
-        let used = use_with(state, &self.log, k, n);
-        let answer = used.answer;
-        let next = used.state;
-        // Made anew and not changed in place: so the compiled code copies the log once and not twice.
-        let account = Account {
-            state: next,
-            ..self
-        };
+        let done = use_with(state, &self.log, k, n);
+        let answer = done.answer;
+        let next = done.state;
+        self.state = next;
         Applied {
             answer: answer,
-            account: account,
+            account: self,
         }
     }
 

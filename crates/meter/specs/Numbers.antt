@@ -17,7 +17,8 @@ use Rattle.tripfile.specs.Reading.{read-of}
 use Rattle.report.specs.declared.Figures.{Figures}
 use Rattle.report.specs.declared.Report.{Report}
 use Rattle.report.specs.declared.Report.the-variants.{Lines, Refused}
-use Rattle.report.specs.Statement.{trip-run}
+use Rattle.replay.specs.Replay.{run-section}
+use Rattle.report.specs.Statement.{figures-of, trip-run}
 
 -- L: 1 where it is a number, else 0
 abbrev pub limit-known : Allowance → ℕ
@@ -53,6 +54,16 @@ statement-number r places = cond (ltb places 10) 1000 (report-number r)
 -- what then stands in the places; fewer than ten stay as they were
 unfoldable pub statement-out : Report → List ℕ → List ℕ
 statement-out r out = cond (ltb (length out) 10) out (report-places r out)
+
+-- what is reported of a file that was read, after its calls and those of one more calls section; refused calls are the
+-- section's
+unfoldable pub report-with : List ℕ → List ℕ → Read → Report
+report-with f more (Told.Trip p n) = Lines (figures-of (run-section (trip-run f p .account) more))
+report-with f more (Told.Refused n) = Refused n
+
+-- the same of a file's bytes
+unfoldable pub report-more : List ℕ → List ℕ → Report
+report-more f more = report-with f more (read-of f)
 
 -- kinds by number
 unfoldable pub kind-number : ℕ → Kind

@@ -2,7 +2,8 @@ pub mod Marks
 pub mod Numbers
 pub mod Shift
 pub mod Logs
-pub mod Ceiling
+pub mod Bits
+pub mod Within
 pub mod Totals
 pub mod Prevalence
 pub mod Claimed

@@ -1,14 +1,14 @@
 -- The units of the logged days, one day at a time, as a day joins, and places that hold no day. Assumes nothing.
 use Prim.Native.Nat.{ℕ, zero, suc, _+_, _≤_, _<_, min}
-use mathlib.Core.Path.{_≡_, refl, ap}
+use mathlib.Core.Path.{_≡_, refl}
 use mathlib.Core.Bool.{Bool, true, false}
 use mathlib.Core.List.{List, [], _∷_}
 use native.Mathlib.Omega.{arith}
 use native.Mathlib.Numerals.{add-one}
 use lib.Dec.{ltb, eqb, lit≤}
 use borrow.Author.Tests.{ltb-true, ltb-false, eqb-true, eqb-false}
-use lib.ListN.{take, drop, getD, length, replicate, drop-of-length-le}
-use lib.Seq.{getD-take, drop-cons}
+use lib.ListN.{take, drop, getD, replicate}
+use lib.Seq.{getD-take}
 use Rattle.tariff.specs.Units.{zero-units, _⊕_, AtMost}
 use Rattle.tariff.proofs.Tests.{and-left, and-right}
 use Rattle.presence.specs.declared.Day.{Day}
@@ -124,16 +124,3 @@ pub blank-empty : (n : ℕ) → all-blank (replicate n empty-day) ≡ true
 unfolding all-blank
 blank-empty zero = refl
 blank-empty (suc n) = blank-empty n
-
--- one place of the search for what is not blank
-pub blank-here : (ds : List Day) (i : ℕ) → i < length ds → blank (getD ds i empty-day) ≡ false → all-blank (drop i ds) ≡ false
-unfolding all-blank
-blank-here ds i h e = rw (drop-cons ds i empty-day h, e) refl
-
-pub blank-on : (ds : List Day) (i : ℕ) → i < length ds → blank (getD ds i empty-day) ≡ true → all-blank (drop (i + 1) ds) ≡ all-blank (drop i ds)
-unfolding all-blank
-blank-on ds i h e = rw (drop-cons ds i empty-day h, add-one, e) refl
-
-pub blank-end : (ds : List Day) (i : ℕ) → length ds ≤ i → all-blank (drop i ds) ≡ true
-unfolding all-blank
-blank-end ds i h = ap all-blank (drop-of-length-le ds {i = i} h)

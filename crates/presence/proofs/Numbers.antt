@@ -1,15 +1,16 @@
 -- The log as it is kept, 13 numbers to a day, and the days that they stand for. Assumes nothing.
 use Prim.Native.Nat.{ℕ, zero, suc, _+_, _-_, _*_, _/_, _%_, _≤_, _<_}
 use mathlib.Core.Path.{_≡_, refl, sym, _∙_, ap}
-use mathlib.Core.Bool.{Bool, true, false, cond, _&&_}
+use mathlib.Core.Bool.{Bool, true, false, cond}
 use mathlib.Core.List.{List, [], _∷_, _++_}
+use native.Mathlib.Nat.{add-assoc}
 use native.Mathlib.Omega.{arith}
 use lib.Dec.{eqb, leb, lit≤}
-use borrow.Author.Tests.{leb-true}
+use borrow.Author.Tests.{leb-true, le-leb}
 use lib.ListN.{getD, drop, take, length, length-drop, replicate}
 use lib.Seq.{getD-take, getD-drop, drop-drop, take-nil, take-add, take-all, length-take-le}
 use Rattle.tariff.specs.Units.{each}
-use Rattle.tariff.proofs.Tests.{and-left, and-right, and-true, and-assoc}
+use Rattle.tariff.proofs.Tests.{and-left, and-right, and-both}
 use Rattle.presence.specs.declared.Day.{Day}
 use Rattle.presence.specs.Day.{empty-day, joined}
 use Rattle.presence.specs.Log.{numbers-of, day-from, days-first, days-of, logged-with, marks-proper, numbers-all}
@@ -73,6 +74,15 @@ days-front zero m xs h = refl
 days-front (suc n) zero xs h = absurd (omega arith)
 days-front (suc n) (suc m) xs h = ap (λ (l : List Day). day-from xs ∷ l) (days-front n m (drop 13 xs) (omega arith))
 
+pub days-past : (n m : ℕ) (xs : List ℕ) → n ≤ m → drop n (days-first m xs) ≡ days-first (m - n) (drop (13 * n) xs)
+unfolding days-first
+days-past zero m xs h = let e : m ≡ m - 0 = omega arith in ap (λ (k : ℕ). days-first k xs) e
+days-past (suc n) zero xs h = absurd (omega arith)
+days-past (suc n) (suc m) xs h =
+    let e : m - n ≡ suc m - suc n = omega arith in
+    let k : 13 + 13 * n ≡ 13 * suc n = omega arith in
+    days-past n m (drop 13 xs) (omega arith) ∙ rw (drop-drop (13 * n) 13 xs, k, e) refl
+
 -- a day that joins the numbers joins the days
 pub days-joined : (d : Day) (xs : List ℕ) → days-of (logged-with d xs) ≡ joined d (days-of xs)
 unfolding days-of logged-with joined days-first numbers-of
@@ -100,7 +110,7 @@ unfolding days-of day-from
 day-at-is i xs h =
     day-in 123 i xs h
     ∙ rw
-    (at-place i 0 (13 * i) xs (omega arith), at-place i 1 (13 * i + 1) xs refl, at-place i 2 (13 * i + 1 + 1) xs (omega arith), at-place i 3 (13 * i + 1 + 2) xs (omega arith), at-place i 4 (13 * i + 1 + 3) xs (omega arith), at-place i 5 (13 * i + 5) xs refl, at-place i 6 (13 * i + 5 + 1) xs (omega arith), at-place i 7 (13 * i + 5 + 2) xs (omega arith), at-place i 8 (13 * i + 5 + 3) xs (omega arith), at-place i 9 (13 * i + 9) xs refl, at-place i 10 (13 * i + 9 + 1) xs (omega arith), at-place i 11 (13 * i + 9 + 2) xs (omega arith), at-place i 12 (13 * i + 9 + 3) xs (omega arith))
+    (at-place i 0 (13 * i) xs (omega arith), at-place i 1 (13 * i + 1) xs refl, at-place i 2 (13 * i + 1 + 1) xs (sym (add-assoc (13 * i) 1 1)), at-place i 3 (13 * i + 1 + 2) xs (sym (add-assoc (13 * i) 1 2)), at-place i 4 (13 * i + 1 + 3) xs (sym (add-assoc (13 * i) 1 3)), at-place i 5 (13 * i + 5) xs refl, at-place i 6 (13 * i + 5 + 1) xs (sym (add-assoc (13 * i) 5 1)), at-place i 7 (13 * i + 5 + 2) xs (sym (add-assoc (13 * i) 5 2)), at-place i 8 (13 * i + 5 + 3) xs (sym (add-assoc (13 * i) 5 3)), at-place i 9 (13 * i + 9) xs refl, at-place i 10 (13 * i + 9 + 1) xs (sym (add-assoc (13 * i) 9 1)), at-place i 11 (13 * i + 9 + 2) xs (sym (add-assoc (13 * i) 9 2)), at-place i 12 (13 * i + 9 + 3) xs (sym (add-assoc (13 * i) 9 3)))
     refl
 
 -- the log keeps its size
@@ -108,21 +118,23 @@ pub logged-size : (d : Day) (xs : List ℕ) → length xs ≡ 1599 → length (l
 unfolding logged-with numbers-of
 logged-size d xs h = length-take-le 1599 (numbers-of d ++ xs) (rw h (lit≤ tt))
 
--- proper marks, one day at a time, with what was found of the days before
-marks-at : (i : ℕ) (xs : List ℕ) → i < 123 → marks-proper (123 - i) (drop (13 * i) xs) ≡ leb (getD xs (13 * i) 0) 7 && marks-proper (123 - (i + 1)) (drop (13 * (i + 1)) xs)
+-- proper marks: those of each day are a number up to 7
+pub marks-each : (n i : ℕ) (xs : List ℕ) → marks-proper n xs ≡ true → i < n → getD xs (13 * i) 0 ≤ 7
 unfolding marks-proper
-marks-at i xs h =
-    let e : 123 - i ≡ suc (123 - (i + 1)) = omega arith in
-    let f : 13 * i + 13 ≡ 13 * (i + 1) = omega arith in
-    rw (e, at-place i 0 (13 * i) xs (omega arith), drop-drop 13 (13 * i) xs, f) refl
+marks-each zero i xs e h = absurd (omega arith)
+marks-each (suc n) zero xs e h = leb-true _ _ (and-left (leb (getD xs 0 0) 7) _ e)
+marks-each (suc n) (suc i) xs e h =
+    let k : 13 + 13 * i ≡ 13 * suc i = omega arith in
+    rw (← k, ← getD-drop 13 xs (13 * i) 0) (marks-each n i (drop 13 xs) (and-right (leb (getD xs 0 0) 7) _ e) (omega arith))
 
-module _ (fit : Bool) (i : ℕ) (xs : List ℕ) where
-  pub marks-next : i < 123 → (fit && leb (getD xs (13 * i) 0) 7) && marks-proper (123 - (i + 1)) (drop (13 * (i + 1)) xs) ≡ fit && marks-proper (123 - i) (drop (13 * i) xs)
-  marks-next h = and-assoc fit _ _ ∙ ap (λ (t : Bool). fit && t) (sym (marks-at i xs h))
-
-  pub marks-end : 123 ≤ i → fit && marks-proper (123 - i) (drop (13 * i) xs) ≡ fit
-  unfolding marks-proper
-  marks-end h = let e : 123 - i ≡ 0 = omega arith in rw (e, and-true fit) refl
+pub marks-all : (n : ℕ) (xs : List ℕ) → ((i : ℕ) → i < n → getD xs (13 * i) 0 ≤ 7) → marks-proper n xs ≡ true
+unfolding marks-proper
+marks-all zero xs h = refl
+marks-all (suc n) xs h = and-both _ _ (le-leb _ _ (h 0 (omega arith))) (marks-all n (drop 13 xs) later)
+  where
+    later : (i : ℕ) → i < n → getD (drop 13 xs) (13 * i) 0 ≤ 7
+    later i l = let k : 13 + 13 * i ≡ 13 * suc i = omega arith in
+        rw (getD-drop 13 xs (13 * i) 0, k) (h (suc i) (omega arith))
 
 marks-take : (n m : ℕ) (xs : List ℕ) → 13 * n ≤ m → marks-proper n (take m xs) ≡ marks-proper n xs
 unfolding marks-proper
@@ -136,7 +148,7 @@ marks-fewer (suc n) xs e =
     let t = leb (getD xs 0 0) 7 in
     rw (and-left t _ e) (marks-fewer n (drop 13 xs) (and-right t _ e))
 
-number-proper : (h z e : Bool) → leb (cond h 1 0 + 2 * cond z 1 0 + 4 * cond e 1 0) 7 ≡ true
+pub number-proper : (h z e : Bool) → leb (cond h 1 0 + 2 * cond z 1 0 + 4 * cond e 1 0) 7 ≡ true
 number-proper true true true = refl
 number-proper true true false = refl
 number-proper true false true = refl
@@ -168,6 +180,31 @@ marks-back (suc (suc (suc (suc (suc zero))))) h = refl
 marks-back (suc (suc (suc (suc (suc (suc zero)))))) h = refl
 marks-back (suc (suc (suc (suc (suc (suc (suc zero))))))) h = refl
 marks-back (suc (suc (suc (suc (suc (suc (suc (suc m)))))))) h = absurd (omega arith)
+
+-- where marks are proper, each of a day's 13 numbers is the day's
+number-in : (r : ℕ) (xs : List ℕ) → r < 13 → getD xs 0 0 ≤ 7 → getD xs r 0 ≡ getD (numbers-of (day-from xs)) r 0
+unfolding numbers-of day-from
+number-in zero xs l h = sym (marks-back (getD xs 0 0) h)
+number-in (suc zero) xs l h = refl
+number-in (suc (suc zero)) xs l h = refl
+number-in (suc (suc (suc zero))) xs l h = refl
+number-in (suc (suc (suc (suc zero)))) xs l h = refl
+number-in (suc (suc (suc (suc (suc zero))))) xs l h = refl
+number-in (suc (suc (suc (suc (suc (suc zero)))))) xs l h = refl
+number-in (suc (suc (suc (suc (suc (suc (suc zero))))))) xs l h = refl
+number-in (suc (suc (suc (suc (suc (suc (suc (suc zero)))))))) xs l h = refl
+number-in (suc (suc (suc (suc (suc (suc (suc (suc (suc zero))))))))) xs l h = refl
+number-in (suc (suc (suc (suc (suc (suc (suc (suc (suc (suc zero)))))))))) xs l h = refl
+number-in (suc (suc (suc (suc (suc (suc (suc (suc (suc (suc (suc zero))))))))))) xs l h = refl
+number-in (suc (suc (suc (suc (suc (suc (suc (suc (suc (suc (suc (suc zero)))))))))))) xs l h = refl
+number-in (suc (suc (suc (suc (suc (suc (suc (suc (suc (suc (suc (suc (suc r))))))))))))) xs l h = absurd (omega arith)
+
+pub number-at : (i r : ℕ) (xs : List ℕ) → i < 123 → r < 13 → getD xs (13 * i) 0 ≤ 7 → getD xs (13 * i + r) 0 ≡ getD (numbers-of (getD (days-of xs) i empty-day)) r 0
+unfolding days-of
+number-at i r xs l m h =
+    let p : getD (drop (13 * i) xs) 0 0 ≤ 7 = rw (at-place i 0 (13 * i) xs (omega arith)) h in
+    sym (at-place i r (13 * i + r) xs refl) ∙ number-in r (drop (13 * i) xs) m p
+    ∙ ap (λ (d : Day). getD (numbers-of d) r 0) (sym (day-in 123 i xs l))
 
 front-back : (xs : List ℕ) → 13 ≤ length xs → getD xs 0 0 ≤ 7 → numbers-of (day-from xs) ≡ take 13 xs
 unfolding numbers-of day-from

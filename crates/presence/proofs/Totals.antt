@@ -1,43 +1,32 @@
 -- The sums of a window, one day at a time, and that those of a sound log stay small. Assumes nothing.
-use Prim.Native.Nat.{ℕ, zero, suc, _+_, _-_, _≤_, _<_, min}
+use Prim.Native.Nat.{ℕ, zero, suc, _+_, _-_, _≤_, _<_}
 use mathlib.Core.Path.{_≡_, refl}
+use mathlib.Core.Bool.{Bool, true, false, _&&_, _||_}
 use mathlib.Core.List.{List}
 use native.Mathlib.Omega.{arith}
 use native.Mathlib.Numerals.{sub-one}
+use lib.Dec.{leb, ltb}
 use lib.ListN.{getD}
+use borrow.Author.Tests.{le-leb, ltb-false}
 use Rattle.tariff.specs.declared.Units.{Units}
-use Rattle.tariff.specs.Units.{AtMost}
 use Rattle.presence.specs.declared.Day.{Day}
 use Rattle.presence.specs.declared.DayKind.{DayKind}
 use Rattle.presence.specs.declared.DayKind.the-variants.{HomeDay, ZoneDay, OffDay}
 use Rattle.presence.specs.declared.Service.{Service}
 use Rattle.presence.specs.declared.Service.the-variants.{DataService, CallService, SmsService}
 use Rattle.presence.specs.declared.ServiceState.{ServiceState}
+use Rattle.presence.specs.declared.ServiceState.the-variants.{Clear, Warned, Surcharged}
 use Rattle.presence.specs.Day.{empty-day, day-units, zone-day, one-if-zone, on-day, one-if-on, counts-as}
-use Rattle.presence.specs.Window.{zone-units, other-units, sum-days, prevalent, prevalent-long, prevalent-short, window-sums}
-use Rattle.presence.specs.Service.{next-state}
-use Rattle.presence.specs.Log.{units-over, lifetime-most}
-use Rattle.presence.specs.Held.{Low, Small, sums-with, both-windows, stepped-by}
+use Rattle.presence.specs.Window.{zone-units, other-units, sum-days, prevalent, prevalent-long, prevalent-short}
+use Rattle.presence.specs.Service.{state-step, next-state}
+use Rattle.presence.specs.Log.{units-over}
+use Rattle.presence.specs.Held.{Low, long-asked, short-asked}
 use Rattle.presence.proofs.Logs.{over-at, over-fewer}
 
 -- what a window may add up: of a day, no more than its units, and 1
 abbrev pub Moderate : (Day → ℕ) → Type 0
 Moderate f = (d : Day) → f d ≤ d .athome .kb + d .inzone .kb + d .outside .kb + (d .athome .outgoing + d .inzone .outgoing + d .outside .outgoing)
     + (d .athome .incoming + d .inzone .incoming + d .outside .incoming) + (d .athome .sms + d .inzone .sms + d .outside .sms) + 1
-
--- a zone day is a day that isn't off, and a day counts once at most
-one-at-most : (k : DayKind) → (one-if-zone k ≤ one-if-on k) × (one-if-on k ≤ 1)
-one-at-most HomeDay = (omega arith, omega arith)
-one-at-most ZoneDay = (omega arith, omega arith)
-one-at-most OffDay = (omega arith, omega arith)
-
-pub zone-days-moderate : Moderate zone-day
-unfolding zone-day
-zone-days-moderate d = omega (arith, one-at-most (counts-as d))
-
-pub on-days-moderate : Moderate on-day
-unfolding on-day
-on-days-moderate d = omega (arith, one-at-most (counts-as d))
 
 pub zone-moderate : (s : Service) → Moderate (zone-units s)
 zone-moderate DataService d = omega arith
@@ -52,52 +41,77 @@ other-moderate SmsService d = omega arith
 abbrev total : Units → ℕ
 total u = u .kb + u .outgoing + u .incoming + u .sms
 
-module _ (f : Day → ℕ) where
-  sum-bounded : Moderate f → (w : ℕ) (ds : List Day) → sum-days f w ds ≤ total (units-over w ds) + w
-  unfolding sum-days units-over
-  sum-bounded m zero ds = omega arith
-  sum-bounded m (suc w) ds = omega (arith, sum-bounded m w ds, m (getD ds w empty-day))
-
-  sum-small : Moderate f → (w : ℕ) (ds : List Day) → w ≤ 123 → Low (units-over w ds) → sum-days f w ds ≤ 5000000000000
-  sum-small m w ds h l = omega (arith, sum-bounded m w ds)
-
--- so the sums over a window stay small
-pub sums-small : (w : ℕ) (ds : List Day) → w ≤ 123 → Low (units-over w ds) → Small (window-sums w ds)
-unfolding window-sums
-sums-small w ds h l = record {
-  zonedays = sum-small zone-day zone-days-moderate w ds h l;
-  ondays = sum-small on-day on-days-moderate w ds h l;
-  zonekb = sum-small (zone-units DataService) (zone-moderate DataService) w ds h l;
-  otherkb = sum-small (other-units DataService) (other-moderate DataService) w ds h l;
-  zonecalls = sum-small (zone-units CallService) (zone-moderate CallService) w ds h l;
-  othercalls = sum-small (other-units CallService) (other-moderate CallService) w ds h l;
-  zonesms = sum-small (zone-units SmsService) (zone-moderate SmsService) w ds h l;
-  othersms = sum-small (other-units SmsService) (other-moderate SmsService) w ds h l;
-}
-
--- so do those of both windows of a sound log
-pub windows-small : (n : ℕ) (ds : List Day) → n ≤ 123 → AtMost (units-over n ds) lifetime-most → Small (both-windows n ds .long) × Small (both-windows n ds .short)
-windows-small n ds h m = (of-days 123, of-days 15)
-  where
-    of-days : (w : ℕ) → Small (window-sums (min w n) ds)
-    of-days w = sums-small (min w n) ds (omega arith) (omega (arith, over-fewer (min w n) n ds (omega arith), m))
-
 -- the sums over no day, and over one day more
-pub sums-none : (w : ℕ) (ds : List Day) → w ≡ 0 → window-sums w ds ≡ record { zonedays = 0; ondays = 0; zonekb = 0; otherkb = 0; zonecalls = 0; othercalls = 0; zonesms = 0; othersms = 0 }
-unfolding window-sums sum-days
-sums-none w ds e = rw e refl
+pub sum-none : (f : Day → ℕ) (w : ℕ) (ds : List Day) → w ≡ 0 → sum-days f w ds ≡ 0
+unfolding sum-days
+sum-none f w ds e = rw e refl
 
-pub sums-more : (w : ℕ) (ds : List Day) → (w ≡ 0 → ⊥) → window-sums w ds ≡ sums-with (window-sums (w - 1) ds) (getD ds (w - 1) empty-day)
-unfolding window-sums sum-days
-sums-more zero ds h = absurd (h refl)
-sums-more (suc w) ds h = rw (sub-one (suc w)) refl
+pub sum-more : (f : Day → ℕ) (w : ℕ) (ds : List Day) → (w ≡ 0 → ⊥) → sum-days f w ds ≡ f (getD ds (w - 1) empty-day) + sum-days f (w - 1) ds
+unfolding sum-days
+sum-more f zero ds h = absurd (h refl)
+sum-more f (suc w) ds h = rw (sub-one (suc w)) refl
 
+-- no sum over the logged days is above their units, and no count above the days
+sum-bounded : (f : Day → ℕ) → Moderate f → (w : ℕ) (ds : List Day) → sum-days f w ds ≤ total (units-over w ds) + w
+unfolding sum-days units-over
+sum-bounded f m zero ds = omega arith
+sum-bounded f m (suc w) ds = omega (arith, sum-bounded f m w ds, m (getD ds w empty-day))
+
+pub sum-small : (f : Day → ℕ) → Moderate f → (w : ℕ) (ds : List Day) → w ≤ 123 → Low (units-over w ds) → sum-days f w ds ≤ 5000000000000
+sum-small f m w ds h l = omega (arith, sum-bounded f m w ds)
+
+counted : (f : Day → ℕ) → ((d : Day) → f d ≤ 1) → (w : ℕ) (ds : List Day) → sum-days f w ds ≤ w
+unfolding sum-days
+counted f m zero ds = omega arith
+counted f m (suc w) ds = omega (arith, counted f m w ds, m (getD ds w empty-day))
+
+one-at-most : (k : DayKind) → (one-if-zone k ≤ 1) × (one-if-on k ≤ 1)
+one-at-most HomeDay = (omega arith, omega arith)
+one-at-most ZoneDay = (omega arith, omega arith)
+one-at-most OffDay = (omega arith, omega arith)
+
+pub zone-days-counted : (w : ℕ) (ds : List Day) → sum-days zone-day w ds ≤ w
+unfolding zone-day
+zone-days-counted w ds = counted zone-day (λ d. one-at-most (counts-as d) .0) w ds
+
+pub on-days-counted : (w : ℕ) (ds : List Day) → sum-days on-day w ds ≤ w
+unfolding on-day
+on-days-counted w ds = counted on-day (λ d. one-at-most (counts-as d) .1) w ds
+
+-- a day's units are low where those of the days around it are
 pub day-low : (n i : ℕ) (ds : List Day) → i < n → Low (units-over n ds) → Low (day-units (getD ds i empty-day))
 day-low n i ds h l = omega (arith, over-at n i ds h)
 
--- a step from the sums is the step from the days
-pub step-is : (s : Service) (n : ℕ) (ds : List Day) (state : ServiceState) → stepped-by s n (both-windows n ds) state ≡ next-state s n ds state
-unfolding next-state prevalent-long prevalent-short prevalent window-sums
-step-is DataService n ds state = refl
-step-is CallService n ds state = refl
-step-is SmsService n ds state = refl
+-- so are those of fewer days
+pub fewer-low : (w n : ℕ) (ds : List Day) → w ≤ n → n ≤ 123 → Low (units-over n ds) → (w ≤ 123) × Low (units-over w ds)
+fewer-low w n ds h few l = (omega arith, omega (arith, over-fewer w n ds h))
+
+-- a step does not depend on a window that it does not ask for
+pub step-asked : (full long short a b : Bool) (state : ServiceState) → (long-asked full state ≡ true → a ≡ true) → (short-asked state ≡ true → b ≡ true)
+    → state-step full (a && long) (b && short) state ≡ state-step full long short state
+step-asked true long short a b Clear f g = rw (f refl) refl
+step-asked false long short a b Clear f g = refl
+step-asked full long short a b (Warned k) f g = go (ltb k 14) refl
+  where
+    go : (t : Bool) → ltb k 14 ≡ t → state-step full (a && long) (b && short) (Warned k) ≡ state-step full long short (Warned k)
+    go true e = rw e refl
+    go false e = rw (g (le-leb 14 k (ltb-false k 14 e))) refl
+step-asked full long short a b Surcharged f g = rw (f refl) refl
+
+pub next-asked : (v : Service) (n : ℕ) (ds : List Day) (state : ServiceState) (a b : Bool) → (long-asked (leb 123 n) state ≡ true → a ≡ true) → (short-asked state ≡ true → b ≡ true)
+    → state-step (leb 123 n) (a && prevalent v 123 n ds) (b && prevalent v 15 n ds) state ≡ next-state v n ds state
+unfolding next-state prevalent-long prevalent-short
+next-asked v n ds state a b f g = step-asked (leb 123 n) (prevalent v 123 n ds) (prevalent v 15 n ds) a b state f g
+
+-- what one of three states asks is asked
+pub asked-first : (x y z : Bool) → x ≡ true → x || y || z ≡ true
+asked-first x y z e = rw e refl
+
+pub asked-second : (x y z : Bool) → y ≡ true → x || y || z ≡ true
+asked-second true y z e = refl
+asked-second false y z e = rw e refl
+
+pub asked-third : (x y z : Bool) → z ≡ true → x || y || z ≡ true
+asked-third true y z e = refl
+asked-third false true z e = refl
+asked-third false false z e = e

@@ -1,79 +1,89 @@
--- What the code's own helpers ask and answer: sums held at a ceiling, and sums of a window. Numbers of 01 that recur
--- here (123, 15) are tied to its rules by the contract of `services_next`. Assumes nothing.
-use Prim.Native.Nat.{ℕ, zero, suc, _+_, _≤_, min}
+-- What the code's own helpers ask and answer: joined bits of numbers, sums that stay small, windows that a step asks
+-- for. Assumes nothing.
+use Prim.Native.Nat.{ℕ, zero, suc, _+_, _*_, _<_}
+use mathlib.Core.Bool.{Bool, true, false, _&&_}
 use mathlib.Core.List.{List}
+use lib.Bits.{bitOr}
 use lib.Dec.{leb}
 use lib.ListN.{getD}
 use Rattle.tariff.specs.declared.Units.{Units}
-use Rattle.tariff.specs.Units.{each, zero-units, _⊕_, AtMost}
+use Rattle.tariff.specs.Units.{each, AtMost}
 use Rattle.presence.specs.declared.Day.{Day}
-use Rattle.presence.specs.declared.Sums.{Sums}
-use Rattle.presence.specs.declared.DayCounts.{DayCounts}
-use Rattle.presence.specs.declared.Windows.{Windows}
+use Rattle.presence.specs.declared.Prevalent.{Prevalent}
 use Rattle.presence.specs.declared.ServiceState.{ServiceState}
+use Rattle.presence.specs.declared.ServiceState.the-variants.{Clear, Warned, Surcharged}
 use Rattle.presence.specs.declared.Service.{Service}
 use Rattle.presence.specs.declared.Service.the-variants.{DataService, CallService, SmsService}
-use Rattle.presence.specs.Day.{empty-day, zone-day, on-day}
-use Rattle.presence.specs.Window.{zone-units, other-units, window-sums, sums-zone, sums-other, prevailing}
-use Rattle.presence.specs.Service.{state-step}
+use Rattle.presence.specs.Day.{zone-day, on-day}
+use Rattle.presence.specs.Log.{lifetime-most}
+use Rattle.presence.specs.Window.{zone-units, other-units, sum-days, prevailing, prevalent}
 
--- each kind held at 1,000,000,000,001, one more than any lifetime units
-abbrev pub held : Units → Units
-held u = each (min (u .kb) 1000000000001) (min (u .outgoing) 1000000000001) (min (u .incoming) 1000000000001)
-    (min (u .sms) 1000000000001)
-
--- a day's units, each number held
-abbrev pub held-day : Day → Units
-held-day d = held (d .athome) ⊕ held (d .inzone) ⊕ held (d .outside)
-
--- the same of the first n days
-unfoldable pub held-over : ℕ → List Day → Units
-held-over zero ds = zero-units
-held-over (suc n) ds = held-day (getD ds n empty-day) ⊕ held-over n ds
-
--- sums with room for one more day so held
+-- sums with room for one more day
 abbrev pub Roomy : Units → Type 0
 Roomy u = AtMost u (each 1000000000000000 1000000000000000 1000000000000000 1000000000000000)
 
--- no kind above the ceiling
+-- the units of a day whose numbers are below 2^40
+abbrev pub Bounded : Units → Type 0
+Bounded u = AtMost u (each 3298534883328 3298534883328 3298534883328 3298534883328)
+
+-- the numbers of the first n days are below 2^40, which is above any lifetime units
+abbrev pub UnitsFit : ℕ → List ℕ → Type 0
+UnitsFit n xs = (i : ℕ) → i < 13 * n → getD xs i 0 < 1099511627776
+
+-- the bits of n numbers, joined: a bit is set where one of the numbers has it
+unfoldable pub bits-of : (ℕ → ℕ) → ℕ → ℕ
+bits-of f zero = 0
+bits-of f (suc n) = bitOr (bits-of f n) (f n)
+
+-- the numbers of the log from a place on
+abbrev pub place-from : ℕ → List ℕ → ℕ → ℕ
+place-from from xs i = getD xs (from + i) 0
+
+-- the marks of a day as the log keeps them
+abbrev pub marks-kept : List ℕ → ℕ → ℕ
+marks-kept xs i = getD xs (13 * i) 0
+
+-- the bits of units of each kind, joined, and those of a day's units
+abbrev pub units-bits : Units → ℕ
+units-bits u = bitOr (bitOr (bitOr (u .kb) (u .outgoing)) (u .incoming)) (u .sms)
+
+abbrev pub day-bits : Day → ℕ
+day-bits d = bitOr (bitOr (units-bits (d .athome)) (units-bits (d .inzone))) (units-bits (d .outside))
+
+-- units within the limit of lifetime units
 abbrev pub Low : Units → Type 0
-Low u = AtMost u (each 1000000000001 1000000000001 1000000000001 1000000000001)
+Low u = AtMost u lifetime-most
 
--- sums small enough to add a day's units to
-pub record Small (s : Sums) : Type 0 where
-  pub zonedays : s .zonedays ≤ 5000000000000
-  pub ondays : s .ondays ≤ 5000000000000
-  pub zonekb : s .zonekb ≤ 5000000000000
-  pub otherkb : s .otherkb ≤ 5000000000000
-  pub zonecalls : s .zonecalls ≤ 5000000000000
-  pub othercalls : s .othercalls ≤ 5000000000000
-  pub zonesms : s .zonesms ≤ 5000000000000
-  pub othersms : s .othersms ≤ 5000000000000
+-- a service is prevalent over the w newest days
+abbrev pub prevails : Service → ℕ → List Day → Bool
+prevails s w ds =
+    prevailing (sum-days zone-day w ds) (sum-days on-day w ds) (sum-days (zone-units s) w ds)
+    (sum-days (other-units s) w ds)
 
--- what a day adds to a window's counts of days
-abbrev pub counts-of : Day → DayCounts
-counts-of d = record { zone = zone-day d; on = on-day d }
-
--- the sums of a window with one day more
-abbrev pub sums-with : Sums → Day → Sums
-sums-with s d = record {
-  zonedays = zone-day d + s .zonedays;
-  ondays = on-day d + s .ondays;
-  zonekb = zone-units DataService d + s .zonekb;
-  otherkb = other-units DataService d + s .otherkb;
-  zonecalls = zone-units CallService d + s .zonecalls;
-  othercalls = other-units CallService d + s .othercalls;
-  zonesms = zone-units SmsService d + s .zonesms;
-  othersms = other-units SmsService d + s .othersms;
+-- the services that are
+abbrev pub prevalent-over : ℕ → List Day → Prevalent
+prevalent-over w ds = record {
+  internet = prevails DataService w ds;
+  calls = prevails CallService w ds;
+  messages = prevails SmsService w ds;
 }
 
--- the sums of both windows, with n days logged
-abbrev pub both-windows : ℕ → List Day → Windows
-both-windows n ds = record { long = window-sums (min 123 n) ds; short = window-sums (min 15 n) ds }
+-- the services that are prevalent, where it is asked; else none
+abbrev pub prevalent-where : Bool → ℕ → ℕ → List Day → Prevalent
+prevalent-where asked w n ds = record {
+  internet = asked && prevalent DataService w n ds;
+  calls = asked && prevalent CallService w n ds;
+  messages = asked && prevalent SmsService w n ds;
+}
 
--- a service's step from the sums of both windows
-abbrev pub stepped-by : Service → ℕ → Windows → ServiceState → ServiceState
-stepped-by s n w state =
-    state-step (leb 123 n)
-    (prevailing (w .long .zonedays) (w .long .ondays) (sums-zone s (w .long)) (sums-other s (w .long)))
-    (prevailing (w .short .zonedays) (w .short .ondays) (sums-zone s (w .short)) (sums-other s (w .short))) state
+-- a step asks for the window of 123 days: of a Clear state where these are logged, and of a Surcharged one
+abbrev pub long-asked : Bool → ServiceState → Bool
+long-asked full Clear = full
+long-asked full (Warned k) = false
+long-asked full Surcharged = true
+
+-- a step asks for the window of 15 days: of a Warned state at its 15th day change
+abbrev pub short-asked : ServiceState → Bool
+short-asked Clear = false
+short-asked (Warned k) = leb 14 k
+short-asked Surcharged = false

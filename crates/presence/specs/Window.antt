@@ -8,7 +8,6 @@ use lib.ListN.{getD}
 use Rattle.presence.specs.declared.Day.{Day}
 use Rattle.presence.specs.declared.Service.{Service}
 use Rattle.presence.specs.declared.Service.the-variants.{DataService, CallService, SmsService}
-use Rattle.presence.specs.declared.Sums.{Sums}
 use Rattle.presence.specs.Day.{empty-day, zone-day, on-day}
 
 -- 01, "zone units" of a service: those used in the zone; of calls, seconds called and received together
@@ -48,28 +47,3 @@ prevalent-long s n ds = prevalent s 123 n ds
 -- prevalent over 15 days
 unfoldable pub prevalent-short : Service → ℕ → List Day → Bool
 prevalent-short s n ds = prevalent s 15 n ds
-
--- all the sums of a window
-unfoldable pub window-sums : ℕ → List Day → Sums
-window-sums w ds = record {
-  zonedays = sum-days zone-day w ds;
-  ondays = sum-days on-day w ds;
-  zonekb = sum-days (zone-units DataService) w ds;
-  otherkb = sum-days (other-units DataService) w ds;
-  zonecalls = sum-days (zone-units CallService) w ds;
-  othercalls = sum-days (other-units CallService) w ds;
-  zonesms = sum-days (zone-units SmsService) w ds;
-  othersms = sum-days (other-units SmsService) w ds;
-}
-
--- zone units of a service among the sums
-abbrev pub sums-zone : Service → Sums → ℕ
-sums-zone DataService s = s .zonekb
-sums-zone CallService s = s .zonecalls
-sums-zone SmsService s = s .zonesms
-
--- other units of a service among the sums
-abbrev pub sums-other : Service → Sums → ℕ
-sums-other DataService s = s .otherkb
-sums-other CallService s = s .othercalls
-sums-other SmsService s = s .othersms

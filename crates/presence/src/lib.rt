@@ -52,26 +52,9 @@ pub struct Services {
     pub messages: ServiceState,
 }
 
-// The sums of a window: zone days, days that are not off, and each service's zone and other units.
-pub struct Sums {
-    pub zonedays: u64,
-    pub ondays: u64,
-    pub zonekb: u64,
-    pub otherkb: u64,
-    pub zonecalls: u64,
-    pub othercalls: u64,
-    pub zonesms: u64,
-    pub othersms: u64,
-}
-
-// A day among the zone days, and among the days that are not off: 0 or 1 each.
-struct DayCounts {
-    zone: u64,
-    on: u64,
-}
-
-// The sums over the last 123 days and over the last 15.
-struct Windows {
-    long: Sums,
-    short: Sums,
+// Which services are prevalent over a window of days.
+struct Prevalent {
+    internet: bool,
+    calls: bool,
+    messages: bool,
 }

@@ -4,13 +4,13 @@ use tariff::Units;
 ghost use mathlib.Core.Path.{_≡_};
 ghost use mathlib.Core.Bool.{true, false, cond};
 ghost use mathlib.Core.List.{_++_};
-ghost use Prim.Native.Nat.{_+_, _≤_, _<_, min};
+ghost use Prim.Native.Nat.{_+_, _-_, _≤_, _<_};
 ghost use lib.ListN.{drop, replicate, take, getD, length};
 ghost use Rattle.tariff.specs.Units.{_⊕_, each, AtMost};
-ghost use Rattle.presence.specs.Day.{empty-day};
-ghost use Rattle.presence.specs.Log.{marks-number, numbers-of, days-of, logged-with, blank, all-blank};
-ghost use Rattle.presence.specs.Log.{marks-proper, lifetime-most, log-within};
-ghost use Rattle.presence.specs.Held.{held, held-day, held-over, Roomy};
+ghost use Rattle.presence.specs.Day.{empty-day, day-units};
+ghost use Rattle.presence.specs.Log.{marks-number, numbers-of, days-of, logged-with, units-over};
+ghost use Rattle.presence.specs.Log.{lifetime-most, log-within};
+ghost use Rattle.presence.specs.Held.{Roomy, Bounded, UnitsFit, bits-of, place-from, marks-kept, day-bits};
 
 // A log without days. The log is kept as 123 days of 13 numbers, newest day first: the marks as one number, then the
 // units of each kind at home, in the zone and elsewhere.
@@ -117,43 +117,20 @@ pub fn push(log: &mut [u64; 1599], d: Day)
     write_newest(log, d);
 }
 
-// The sum with one number more, which is held at 1,000,000,000,001.
-fn hold(a: u64, b: u64) -> u64
-    requires { ⌜ a ≤ 2000000000000000 ⌝ }
-    ensures { λ r. ⌜ r ≡ min b 1000000000001 + a ⌝ }
+// The sum with a day's units.
+fn add_day(sum: Units, d: Day) -> Units
+    requires { ⌜ Roomy sum × Bounded (day-units d) ⌝ }
+    ensures { λ r. ⌜ r ≡ day-units d ⊕ sum ⌝ }
 {
-    if b < 1000000000001 {
-        b + a
-    } else {
-        1000000000001 + a
-    }
+    let a = tariff::amounts::plus(d.athome, d.inzone);
+    let b = tariff::amounts::plus(a, d.outside);
+    tariff::amounts::plus(b, sum)
 }
 
-fn hold_units(sum: Units, u: Units) -> Units
-    requires { ⌜ AtMost sum (each 2000000000000000 2000000000000000 2000000000000000 2000000000000000) ⌝ }
-    ensures { λ r. ⌜ r ≡ held u ⊕ sum ⌝ }
-{
-    Units {
-        kb: hold(sum.kb, u.kb),
-        outgoing: hold(sum.outgoing, u.outgoing),
-        incoming: hold(sum.incoming, u.incoming),
-        sms: hold(sum.sms, u.sms),
-    }
-}
-
-fn hold_day(sum: Units, d: Day) -> Units
-    requires { ⌜ Roomy sum ⌝ }
-    ensures { λ r. ⌜ r ≡ held-day d ⊕ sum ⌝ }
-{
-    let a = hold_units(sum, d.outside);
-    let b = hold_units(a, d.inzone);
-    hold_units(b, d.athome)
-}
-
-// The units of the first n days, each number held: any values will do.
+// The units of the first n days.
 fn tally(log: &[u64; 1599], n: usize) -> Units
-    requires { ⌜ n ≤ 123 ⌝ }
-    ensures { λ r. ⌜ r ≡ held-over n (days-of (now (log .entry))) ⌝ }
+    requires { ⌜ (n ≤ 123) × UnitsFit n (now log) ⌝ }
+    ensures { λ r. ⌜ r ≡ units-over n (days-of (now (log .entry))) ⌝ }
 {
     let mut sum = Units {
         kb: 0,
@@ -163,58 +140,73 @@ fn tally(log: &[u64; 1599], n: usize) -> Units
     };
     let mut i: usize = 0;
     while i < n {
-        sum = hold_day(sum, day_at(log, i));
+        sum = add_day(sum, day_at(log, i));
         i += 1;
     }
     sum
 }
 
-fn is_blank(d: Day) -> bool
-    ensures { λ r. ⌜ r ≡ blank d ⌝ }
+// The bits of the numbers from one place to before another, joined: below a power of 2 exactly if each number is.
+fn bits_between(log: &[u64; 1599], from: usize, to: usize) -> u64
+    requires { ⌜ (from ≤ to) × (to ≤ 1599) ⌝ }
+    ensures { λ r. ⌜ r ≡ bits-of (place-from from (now (log .entry))) (to - from) ⌝ }
 {
-    let a = tariff::amounts::is_none(d.athome);
-    let z = tariff::amounts::is_none(d.inzone);
-    let e = tariff::amounts::is_none(d.outside);
-    !d.home & !d.zone & !d.elsewhere & a & z & e
+    let mut bits: u64 = 0;
+    let mut i = from;
+    while i < to {
+        bits = bits | log[i];
+        i += 1;
+    }
+    bits
 }
 
-// Are the places past the first n blank?
-fn rest_blank(log: &[u64; 1599], n: usize) -> bool
+// The same of the marks of the first n days.
+fn marks_bits(log: &[u64; 1599], n: usize) -> u64
     requires { ⌜ n ≤ 123 ⌝ }
-    ensures { λ r. ⌜ r ≡ all-blank (drop n (days-of (now (log .entry)))) ⌝ }
+    ensures { λ r. ⌜ r ≡ bits-of (marks-kept (now (log .entry))) n ⌝ }
 {
-    let mut i = n;
-    while i < 123 {
-        if !is_blank(day_at(log, i)) {
-            return false;
-        }
+    let mut bits: u64 = 0;
+    let mut i: usize = 0;
+    while i < n {
+        bits = bits | log[13 * i];
         i += 1;
     }
-    true
+    bits
 }
 
-// Are the marks of each day a number from 0 to 7?
-fn marks_fit(log: &[u64; 1599]) -> bool
-    ensures { λ r. ⌜ r ≡ marks-proper 123 (now (log .entry)) ⌝ }
+// The same of a day's units.
+fn day_bits(d: Day) -> u64
+    ensures { λ r. ⌜ r ≡ day-bits d ⌝ }
 {
-    let mut fit = true;
-    let mut i: usize = 0;
-    while i < 123 {
-        fit = fit & (log[13 * i] <= 7);
-        i += 1;
-    }
-    fit
+    let h = d.athome;
+    let z = d.inzone;
+    let e = d.outside;
+    let home = h.kb | h.outgoing | h.incoming | h.sms;
+    let zone = z.kb | z.outgoing | z.incoming | z.sms;
+    let elsewhere = e.kb | e.outgoing | e.incoming | e.sms;
+    home | zone | elsewhere
 }
 
 // Are the units of today and of the n logged days within the lifetime units, the other places blank, and all marks
-// proper?
+// proper? A number of 2^40 or more is above any lifetime units; without one the units add up.
 pub fn log_fits(log: &[u64; 1599], today: Day, n: u64, lifetime: Units) -> bool
     requires { ⌜ (n ≤ 123) × AtMost lifetime lifetime-most ⌝ }
     ensures { λ r. ⌜ r ≡ log-within (now (log .entry)) today n lifetime ⌝ }
 {
     let k = n as usize;
-    let sum = hold_day(tally(log, k), today);
-    let rest = rest_blank(log, k);
-    let marks = marks_fit(log);
-    tariff::amounts::units_fit(sum, lifetime) & rest & marks
+    let end = 13 * k;
+    let rest = bits_between(log, end, 1599);
+    if rest != 0 {
+        return false;
+    }
+    let marks = marks_bits(log, k);
+    if marks > 7 {
+        return false;
+    }
+    let units = bits_between(log, 0, end) | day_bits(today);
+    if units >= 1099511627776 {
+        return false;
+    }
+    let sum = add_day(tally(log, k), today);
+    tariff::amounts::units_fit(sum, lifetime)
 }

@@ -1,15 +1,13 @@
 // The states of the services after a day change: document 01, "Account and its calls", Next day.
-use super::Service;
 use super::ServiceState;
 use super::Services;
-use super::Windows;
 use super::window;
 ghost use mathlib.Core.Path.{_≡_};
 ghost use Prim.Native.Nat.{_+_, _≤_, _<_};
 ghost use Rattle.tariff.specs.Units.{AtMost};
 ghost use Rattle.presence.specs.Service.{state-step, services-after};
 ghost use Rattle.presence.specs.Log.{days-of, units-over, lifetime-most};
-ghost use Rattle.presence.specs.Held.{Small, stepped-by};
+ghost use Rattle.presence.specs.Held.{long-asked, short-asked};
 
 fn step(full: bool, long: bool, short: bool, state: ServiceState) -> ServiceState
     ensures { λ r. ⌜ r ≡ state-step full long short state ⌝ }
@@ -41,30 +39,45 @@ fn step(full: bool, long: bool, short: bool, state: ServiceState) -> ServiceStat
     }
 }
 
-// A service's state after a day change, with n days logged.
-fn state_after(v: Service, n: usize, w: Windows, state: ServiceState) -> ServiceState
-    requires { ⌜ Small (w .long) × Small (w .short) ⌝ }
-    ensures { λ r. ⌜ r ≡ stepped-by v n w state ⌝ }
+// Does the state's next step ask for prevalence over 123 days?
+fn asks_long(full: bool, state: ServiceState) -> bool
+    ensures { λ r. ⌜ r ≡ long-asked full state ⌝ }
 {
-    let long = w.long;
-    let short = w.short;
-    let over_long = window::prevails(long, v);
-    let over_short = window::prevails(short, v);
-    step(123 <= n, over_long, over_short, state)
+    match state {
+        ServiceState::Clear => full,
+        ServiceState::Warned(_) => false,
+        ServiceState::Surcharged => true,
+    }
 }
 
-// The three states after a day change, with n days logged, the one just ended among them.
+// Does it ask for prevalence over 15 days?
+fn asks_short(state: ServiceState) -> bool
+    ensures { λ r. ⌜ r ≡ short-asked state ⌝ }
+{
+    match state {
+        ServiceState::Clear => false,
+        ServiceState::Warned(k) => 14 <= k,
+        ServiceState::Surcharged => false,
+    }
+}
+
+// The three states after a day change, with n days logged, the one just ended among them. A window of days that no
+// state asks for is not looked at.
 pub fn services_next(s: Services, log: &[u64; 1599], n: usize) -> Services
     requires { ⌜ (n ≤ 123) × AtMost (units-over n (days-of (now log))) lifetime-most ⌝ }
     ensures { λ r. ⌜ r ≡ services-after n (days-of (now (log .entry))) s ⌝ }
 {
-    let w = window::sum_windows(log, n);
+    let full = 123 <= n;
     let internet = s.internet;
     let calls = s.calls;
     let messages = s.messages;
-    let a = state_after(Service::DataService, n, w, internet);
-    let b = state_after(Service::CallService, n, w, calls);
-    let c = state_after(Service::SmsService, n, w, messages);
+    let asked_long = asks_long(full, internet) | asks_long(full, calls) | asks_long(full, messages);
+    let asked_short = asks_short(internet) | asks_short(calls) | asks_short(messages);
+    let long = window::prevalent_where(asked_long, log, 123, n);
+    let short = window::prevalent_where(asked_short, log, 15, n);
+    let a = step(full, long.internet, short.internet, internet);
+    let b = step(full, long.calls, short.calls, calls);
+    let c = step(full, long.messages, short.messages, messages);
     Services {
         internet: a,
         calls: b,

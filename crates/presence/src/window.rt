@@ -1,31 +1,43 @@
-// The sums of the last days, and prevalence: document 01, "Account and its calls", Next day, and 02, 1/13.
+// The sums over the last days, and prevalence: document 01, "Account and its calls", Next day, and 02, 1/13.
 use super::Day;
-use super::DayCounts;
 use super::DayKind;
+use super::Prevalent;
 use super::Service;
-use super::Sums;
-use super::Windows;
 use super::days;
 use super::log;
 ghost use mathlib.Core.Path.{_≡_};
 ghost use Prim.Native.Nat.{_+_, _≤_, _<_, min};
-ghost use Rattle.presence.specs.Day.{day-units};
-ghost use Rattle.presence.specs.Window.{zone-units, other-units, window-sums, sums-zone, sums-other, prevailing};
+ghost use lib.Dec.{ltb};
+ghost use Rattle.presence.specs.Day.{day-units, zone-day, on-day};
+ghost use Rattle.presence.specs.Window.{zone-units, other-units, sum-days};
 ghost use Rattle.presence.specs.Log.{days-of, units-over};
-ghost use Rattle.presence.specs.Held.{Low, Small, counts-of, sums-with, both-windows};
+ghost use Rattle.presence.specs.Held.{Low, prevalent-over, prevalent-where};
 
-// What a day adds to a window's zone days, and to its days that are not off.
-fn day_counts(d: Day) -> DayCounts
-    ensures { λ r. ⌜ r ≡ counts-of d ⌝ }
+// 1 for a zone day, else 0.
+fn zone_day(d: Day) -> u64
+    ensures { λ r. ⌜ r ≡ zone-day d ⌝ }
 {
     let k = days::day_kind(d);
     match k {
-        DayKind::HomeDay => DayCounts { zone: 0, on: 1 },
-        DayKind::ZoneDay => DayCounts { zone: 1, on: 1 },
-        DayKind::OffDay => DayCounts { zone: 0, on: 0 },
+        DayKind::HomeDay => 0,
+        DayKind::ZoneDay => 1,
+        DayKind::OffDay => 0,
     }
 }
 
+// 1 for a day that is not off, else 0.
+fn on_day(d: Day) -> u64
+    ensures { λ r. ⌜ r ≡ on-day d ⌝ }
+{
+    let k = days::day_kind(d);
+    match k {
+        DayKind::HomeDay => 1,
+        DayKind::ZoneDay => 1,
+        DayKind::OffDay => 0,
+    }
+}
+
+// A day's zone units of a service.
 fn zone_of(d: Day, s: Service) -> u64
     requires { ⌜ Low (day-units d) ⌝ }
     ensures { λ r. ⌜ r ≡ zone-units s d ⌝ }
@@ -38,6 +50,7 @@ fn zone_of(d: Day, s: Service) -> u64
     }
 }
 
+// A day's other units of a service.
 fn other_of(d: Day, s: Service) -> u64
     requires { ⌜ Low (day-units d) ⌝ }
     ensures { λ r. ⌜ r ≡ other-units s d ⌝ }
@@ -51,51 +64,92 @@ fn other_of(d: Day, s: Service) -> u64
     }
 }
 
-// The sums with one day more.
-fn add_day(s: Sums, d: Day) -> Sums
-    requires { ⌜ Small s × Low (day-units d) ⌝ }
-    ensures { λ r. ⌜ r ≡ sums-with s d ⌝ }
-{
-    let day = day_counts(d);
-    let zonekb = zone_of(d, Service::DataService);
-    let otherkb = other_of(d, Service::DataService);
-    let zonecalls = zone_of(d, Service::CallService);
-    let othercalls = other_of(d, Service::CallService);
-    let zonesms = zone_of(d, Service::SmsService);
-    let othersms = other_of(d, Service::SmsService);
-    Sums {
-        zonedays: day.zone + s.zonedays,
-        ondays: day.on + s.ondays,
-        zonekb: zonekb + s.zonekb,
-        otherkb: otherkb + s.otherkb,
-        zonecalls: zonecalls + s.zonecalls,
-        othercalls: othercalls + s.othercalls,
-        zonesms: zonesms + s.zonesms,
-        othersms: othersms + s.othersms,
-    }
-}
-
-// The sums over the last w days: those of one day less, and the day before them.
-fn sums_last(log: &[u64; 1599], w: usize) -> Sums
-    requires { ⌜ (w ≤ 123) × Low (units-over w (days-of (now log))) ⌝ }
-    ensures { λ r. ⌜ r ≡ window-sums w (days-of (now (log .entry))) ⌝ }
+// The zone days among the last w days: those among one day less, and the day before them, which is read first.
+fn zone_days(log: &[u64; 1599], w: usize) -> u64
+    requires { ⌜ w ≤ 123 ⌝ }
+    ensures { λ r. ⌜ r ≡ sum-days zone-day w (days-of (now (log .entry))) ⌝ }
 {
     if w == 0 {
-        return Sums {
-            zonedays: 0,
-            ondays: 0,
-            zonekb: 0,
-            otherkb: 0,
-            zonecalls: 0,
-            othercalls: 0,
-            zonesms: 0,
-            othersms: 0,
-        };
+        return 0;
     }
     let last = w - 1;
-    let s = sums_last(log, last);
-    let d = log::day_at(log, last);
-    add_day(s, d)
+    let x = zone_day(log::day_at(log, last));
+    x + zone_days(log, last)
+}
+
+// The days that are not off, among the last w days.
+fn on_days(log: &[u64; 1599], w: usize) -> u64
+    requires { ⌜ w ≤ 123 ⌝ }
+    ensures { λ r. ⌜ r ≡ sum-days on-day w (days-of (now (log .entry))) ⌝ }
+{
+    if w == 0 {
+        return 0;
+    }
+    let last = w - 1;
+    let x = on_day(log::day_at(log, last));
+    x + on_days(log, last)
+}
+
+// The zone units of a service over the last w days.
+fn zone_sum(log: &[u64; 1599], v: Service, w: usize) -> u64
+    requires { ⌜ (w ≤ 123) × Low (units-over w (days-of (now log))) ⌝ }
+    ensures { λ r. ⌜ r ≡ sum-days (zone-units v) w (days-of (now (log .entry))) ⌝ }
+{
+    if w == 0 {
+        return 0;
+    }
+    let last = w - 1;
+    let x = zone_of(log::day_at(log, last), v);
+    x + zone_sum(log, v, last)
+}
+
+// The other units of a service over the last w days.
+fn other_sum(log: &[u64; 1599], v: Service, w: usize) -> u64
+    requires { ⌜ (w ≤ 123) × Low (units-over w (days-of (now log))) ⌝ }
+    ensures { λ r. ⌜ r ≡ sum-days (other-units v) w (days-of (now (log .entry))) ⌝ }
+{
+    if w == 0 {
+        return 0;
+    }
+    let last = w - 1;
+    let x = other_of(log::day_at(log, last), v);
+    x + other_sum(log, v, last)
+}
+
+// Do the zone units of a service exceed its other units?
+fn zone_exceeds(log: &[u64; 1599], v: Service, w: usize) -> bool
+    requires { ⌜ (w ≤ 123) × Low (units-over w (days-of (now log))) ⌝ }
+    ensures { λ r. ⌜ r ≡ ltb (sum-days (other-units v) w (days-of (now (log .entry))))
+        (sum-days (zone-units v) w (days-of (now (log .entry)))) ⌝ }
+{
+    let zone = zone_sum(log, v, w);
+    let other = other_sum(log, v, w);
+    other < zone
+}
+
+// Which services are prevalent over the last w days? Off days are in neither count of days. Where zone days are too few
+// none is, and no units are summed.
+fn prevalent_over(log: &[u64; 1599], w: usize) -> Prevalent
+    requires { ⌜ (w ≤ 123) × Low (units-over w (days-of (now log))) ⌝ }
+    ensures { λ r. ⌜ r ≡ prevalent-over w (days-of (now (log .entry))) ⌝ }
+{
+    let zone = zone_days(log, w);
+    let on = on_days(log, w);
+    if 2 * zone <= on {
+        return Prevalent {
+            internet: false,
+            calls: false,
+            messages: false,
+        };
+    }
+    let internet = zone_exceeds(log, Service::DataService, w);
+    let calls = zone_exceeds(log, Service::CallService, w);
+    let messages = zone_exceeds(log, Service::SmsService, w);
+    Prevalent {
+        internet: internet,
+        calls: calls,
+        messages: messages,
+    }
 }
 
 fn lesser(m: usize, n: usize) -> usize
@@ -104,48 +158,19 @@ fn lesser(m: usize, n: usize) -> usize
     if m < n { m } else { n }
 }
 
-// The sums of both windows, with n days logged.
-pub fn sum_windows(log: &[u64; 1599], n: usize) -> Windows
+// Which services are prevalent over the last w days, or over the n logged days where these are fewer? Where this is not
+// asked the log is not read, and the answer is none.
+pub fn prevalent_where(asked: bool, log: &[u64; 1599], w: usize, n: usize) -> Prevalent
     requires { ⌜ (n ≤ 123) × Low (units-over n (days-of (now log))) ⌝ }
-    ensures { λ r. ⌜ r ≡ both-windows n (days-of (now (log .entry))) ⌝ }
+    ensures { λ r. ⌜ r ≡ prevalent-where asked w n (days-of (now (log .entry))) ⌝ }
 {
-    let l = lesser(123, n);
-    let s = lesser(15, n);
-    let long = sums_last(log, l);
-    let short = sums_last(log, s);
-    Windows {
-        long: long,
-        short: short,
+    if asked {
+        let few = lesser(w, n);
+        return prevalent_over(log, few);
     }
-}
-
-fn zone_sum(s: Sums, v: Service) -> u64
-    ensures { λ r. ⌜ r ≡ sums-zone v s ⌝ }
-{
-    match v {
-        Service::DataService => s.zonekb,
-        Service::CallService => s.zonecalls,
-        Service::SmsService => s.zonesms,
+    Prevalent {
+        internet: false,
+        calls: false,
+        messages: false,
     }
-}
-
-fn other_sum(s: Sums, v: Service) -> u64
-    ensures { λ r. ⌜ r ≡ sums-other v s ⌝ }
-{
-    match v {
-        Service::DataService => s.otherkb,
-        Service::CallService => s.othercalls,
-        Service::SmsService => s.othersms,
-    }
-}
-
-// Is the service prevalent? Off days are in neither count of days.
-pub fn prevails(s: Sums, v: Service) -> bool
-    requires { ⌜ Small s ⌝ }
-    ensures { λ r. ⌜ r ≡ prevailing (s .zonedays) (s .ondays) (sums-zone v s) (sums-other v s) ⌝ }
-{
-    let zone = zone_sum(s, v);
-    let other = other_sum(s, v);
-    let on = s.ondays;
-    (on < 2 * s.zonedays) & (other < zone)
 }

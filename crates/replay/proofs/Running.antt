@@ -6,7 +6,10 @@ use native.Mathlib.Numerals.{add-one}
 use native.Mathlib.Omega.{arith}
 use lib.ListN.{length}
 use Rattle.words.specs.Words.{word}
+use mathlib.Core.Bool.{true}
 use Rattle.account.specs.declared.Account.{Account}
+use Rattle.account.specs.Whole.{sound}
+use Rattle.account.specs.Answers.{account-of}
 use Rattle.tripfile.specs.Bodies as File
 use Rattle.tripfile.specs.Bodies.{first-calls, calls-in}
 use Rattle.reader.specs.declared.Step.{Step}
@@ -16,8 +19,8 @@ use Rattle.reader.proofs.Decoded.{decoded-call, after-call}
 use Rattle.replay.specs.declared.Progress.{Progress}
 use Rattle.replay.specs.declared.Replayed.{Replayed}
 use Rattle.replay.specs.declared.Coded.{Coded}
-use Rattle.replay.specs.Replay.{coded, coded-calls, run-section, replay-step, after-step, run-first, replayed-of, progress-of}
-use Rattle.replay.proofs.Steps.{replay-list, replay-is, list-step, list-end, step-bounded, replay-size, replayed-is}
+use Rattle.replay.specs.Replay.{coded, coded-calls, run-section, replay-step, after-step, run-first, replayed-of, progress-of, SaidSound}
+use Rattle.replay.proofs.Steps.{replay-list, replay-is, list-step, list-end, step-bounded, replay-size, replay-sound, replayed-is}
 
 coded-more : (cs : List File.Call) (c : File.Call) → coded-calls (cs ++ (c ∷ [])) ≡ coded-calls cs ++ (coded (c .code) (c .number) ∷ [])
 unfolding coded-calls
@@ -64,13 +67,25 @@ pub step-keeps-size : (t : Replayed) (s : Step) → length (t .account .log) ≡
 step-keeps-size t (Call c n) h = replay-size t (coded c n) h
 step-keeps-size t End h = h
 
+-- a sound account stays sound
+step-sound : (t : Replayed) (s : Step) → sound (t .account) ≡ true → sound (after-step t s .account) ≡ true
+step-sound t (Call c n) h = replay-sound t (coded c n) h
+step-sound t End h = h
+
+-- so what is known of it is so after a call
+pub stays-known : (t : Progress) (log : List ℕ) (x : Step) (p : Progress) (zs : List ℕ) → SaidSound (t .sound) (account-of (t .state) log)
+    → p ≡ progress-of (t .sound) (after-step (replayed-of t log) x) → zs ≡ after-step (replayed-of t log) x .account .log → SaidSound (p .sound) (account-of (p .state) zs)
+stays-known t log x p zs k e f h =
+    let g = ap (λ (q : Replayed). sound (q .account)) (replayed-is (t .sound) (after-step (replayed-of t log) x) p zs e f) in
+    g ∙ step-sound (replayed-of t log) x (k (sym (ap (λ (q : Progress). q .sound) e) ∙ h))
+
 -- one call of the code's loop: the call that the reader hands out at call i's place, run with the log lent
 pub turned : (a : Account) (s : List ℕ) (i n : ℕ) (t : Progress) (log : List ℕ) (x : Step) (p : Progress) (zs : List ℕ)
     → i < n → 8 * n ≤ length s → replayed-of t log ≡ run-first a s i → x ≡ decoded s (8 * i)
-    → p ≡ progress-of (after-step (replayed-of t log) x) → zs ≡ after-step (replayed-of t log) x .account .log → replayed-of p zs ≡ run-first a s (i + 1)
+    → p ≡ progress-of (t .sound) (after-step (replayed-of t log) x) → zs ≡ after-step (replayed-of t log) x .account .log → replayed-of p zs ≡ run-first a s (i + 1)
 turned a s i n t log x p zs l h same d e f =
     let fits : 8 * i + 8 ≤ length s = omega arith in
-    replayed-is (after-step (replayed-of t log) x) p zs e f ∙ rw (d, same) (run-more a s i fits)
+    replayed-is (t .sound) (after-step (replayed-of t log) x) p zs e f ∙ rw (d, same) (run-more a s i fits)
 
 -- fewer calls are refused than are run
 pub few-refused : (a : Account) (s : List ℕ) (i n : ℕ) (t : Progress) (log : List ℕ) → i < n → n < 18446744073709551616 → replayed-of t log ≡ run-first a s i → t .refused < 18446744073709551615

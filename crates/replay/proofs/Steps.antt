@@ -16,7 +16,9 @@ use Rattle.account.specs.declared.Call.{Call}
 use Rattle.account.specs.declared.Call.the-variants.{Register, Use, TopUp, NextDay, Afford}
 use Rattle.account.specs.Calls.{verdict, accepts, step}
 use Rattle.account.specs.Answers.{accepted-answer, applied, applied-state}
+use Rattle.account.specs.Whole.{sound}
 use Rattle.account.proofs.Returns.{step-size}
+use Rattle.account.proofs.Kept.{sound-tells, sound-passes, sound-step}
 use Rattle.tripfile.specs.Bodies as File
 use Rattle.machine.specs.Machine as machine
 use Rattle.ledger.specs.Lists.{run}
@@ -78,16 +80,22 @@ step-bounded t Unknown = omega arith
 
 -- one more call, where all but the log and the log are held apart
 module _ (t : Replayed) (c : Call) (r : StateApplied) (n : ℕ) (e : r ≡ applied-state (applied (t .account) c)) (f : n ≡ count-refused (r .answer)) where
-  pub replay-known : _≡_ {A = Progress} (record { state = r .state; refused = t .refused + n }) (progress-of (replay-step t (Known c)))
+  pub replay-known : (b : Bool) → _≡_ {A = Progress} (record { state = r .state; refused = t .refused + n; sound = b }) (progress-of b (replay-step t (Known c)))
   unfolding replay-step applied
-  replay-known =
+  replay-known b =
       let g : n ≡ cond (accepts (t .account) c) 0 1 = f ∙ ap (λ (x : StateApplied). count-refused (x .answer)) e ∙ counted (t .account) c in
       let h : r .state ≡ step (t .account) c .state = ap (λ (x : StateApplied). x .state) e in
-      λ i. record { state = h i; refused = t .refused + g i }
+      λ i. record { state = h i; refused = t .refused + g i; sound = b }
 
 -- a run from its parts
-pub replayed-is : (t : Replayed) (r : Progress) (l : List ℕ) → r ≡ progress-of t → l ≡ t .account .log → replayed-of r l ≡ t
-replayed-is t r l e f = λ i. record { account = record { state = e i .state; log = f i }; refused = e i .refused }
+pub replayed-is : (b : Bool) (t : Replayed) (r : Progress) (l : List ℕ) → r ≡ progress-of b t → l ≡ t .account .log → replayed-of r l ≡ t
+replayed-is b t r l e f = λ i. record { account = record { state = e i .state; log = f i }; refused = e i .refused }
+
+-- a sound account stays sound
+pub replay-sound : (t : Replayed) (x : Coded) → sound (t .account) ≡ true → sound (replay-step t x .account) ≡ true
+unfolding replay-step
+replay-sound t (Known c) s = sound-passes _ (sound-step (t .account) c (sound-tells (t .account) s))
+replay-sound t Unknown s = s
 
 -- the log keeps its size
 pub replay-size : (t : Replayed) (x : Coded) → length (t .account .log) ≡ 1599 → length (replay-step t x .account .log) ≡ 1599

@@ -1,8 +1,10 @@
 -- Calls as the trip file codes them, run one after the other: 01, "Trip file" and "Figures". Assumes nothing.
-use Prim.Native.Nat.{ℕ, zero, suc, _+_, _*_}
-use mathlib.Core.Bool.{cond, _&&_}
+use Prim.Native.Nat.{ℕ, zero, suc, _+_, _*_, _<_}
+use mathlib.Core.Path.{_≡_}
+use mathlib.Core.Bool.{Bool, true, cond, _&&_}
 use mathlib.Core.List.{List, [], _∷_}
 use lib.Dec.{eqb}
+use lib.ListN.{length}
 use Rattle.words.specs.Words.{word}
 use Rattle.tariff.specs.declared.Kind.the-variants.{Data, Outgoing, Incoming, Sms}
 use Rattle.tariff.specs.declared.Place.the-variants.{Home, Zone, Elsewhere}
@@ -11,6 +13,7 @@ use Rattle.state.specs.declared.Answer.the-variants.{Done, Charged, UpTo, Refus
 use Rattle.account.specs.declared.Account.{Account}
 use Rattle.account.specs.declared.Call.{Call}
 use Rattle.account.specs.declared.Call.the-variants.{Register, Use, TopUp, NextDay}
+use Rattle.account.specs.Whole.{sound}
 use Rattle.account.specs.Calls.{accepts, step}
 use Rattle.account.specs.Answers.{account-of}
 use Rattle.reader.specs.declared.Step.{Step}
@@ -96,6 +99,22 @@ run-first a s (suc n) = replay-step (run-first a s n) (coded (word s (2 * n)) (w
 abbrev pub replayed-of : Progress → List ℕ → Replayed
 replayed-of t l = record { account = account-of (t .state) l; refused = t .refused }
 
--- all but the log, and the count
-abbrev pub progress-of : Replayed → Progress
-progress-of t = record { state = t .account .state; refused = t .refused }
+-- all but the log, and the count; whether the account is known to be sound is told apart
+abbrev pub progress-of : Bool → Replayed → Progress
+progress-of b t = record { state = t .account .state; refused = t .refused; sound = b }
+
+-- an account that is said to be sound is sound
+abbrev pub SaidSound : Bool → Account → Type 0
+SaidSound b a = b ≡ true → sound a ≡ true
+
+-- what one more call asks: the log's size, room for one more refusal, and that what is said of the account is so
+pub record Going (t : Progress) (log : List ℕ) : Type 0 where
+  pub size : length log ≡ 1599
+  pub room : t .refused < 18446744073709551615
+  pub known : SaidSound (t .sound) (account-of (t .state) log)
+
+-- what a list of calls asks, before the first
+pub record Starting (t : Progress) (log : List ℕ) : Type 0 where
+  pub size : length log ≡ 1599
+  pub none : t .refused ≡ 0
+  pub known : SaidSound (t .sound) (account-of (t .state) log)

@@ -5,14 +5,17 @@ use account::Call;
 use reader::Step;
 use state::Answer;
 use state::State;
+use state::StateApplied;
 use tariff::Kind;
 use tariff::Place;
 ghost use mathlib.Core.Path.{_≡_};
 ghost use Prim.Native.Nat.{_+_, _*_, _≤_, _<_};
 ghost use lib.ListN.{length};
-ghost use Rattle.account.specs.Answers.{account-of};
+ghost use Rattle.account.specs.Calls.{step};
+ghost use Rattle.account.specs.Answers.{account-of, applied, applied-state};
 ghost use Rattle.replay.specs.Replay.{count-refused, register-code, other-code, coded, replay-step, after-step};
 ghost use Rattle.replay.specs.Replay.{run-first, run-section, replayed-of, progress-of};
+ghost use Rattle.replay.specs.Replay.{SaidSound, Going, Starting};
 
 // What a code and a number stand for.
 pub enum Coded {
@@ -26,10 +29,12 @@ pub struct Replayed {
     pub refused: usize,
 }
 
-// The same, of the account all but its log.
+// The same, of the account all but its log; and whether the account is known to be sound, so that no further call has
+// to look.
 pub struct Progress {
     pub state: State,
     pub refused: usize,
+    pub sound: bool,
 }
 
 fn register_coded(n: u32) -> Coded
@@ -109,35 +114,50 @@ fn one_if_refused(x: Answer) -> usize
     }
 }
 
+// One call, with the log lent: looked at for soundness first, unless it is known.
+fn make_call(state: State, log: &mut [u64; 1599], known: bool, c: Call) -> StateApplied
+    requires { ⌜ (length (now log) ≡ 1599) × SaidSound known (account-of state (now log)) ⌝ }
+    ensures answer { λ r. ⌜ r ≡ applied-state (applied (account-of state (now (log .entry))) c) ⌝ }
+    ensures shifted { λ _. ⌜ now (log .exit) ≡ step (account-of state (now (log .entry))) c .log ⌝ }
+{
+    if known {
+        account::call_sound(state, log, c)
+    } else {
+        account::call_with(state, log, c)
+    }
+}
+
 // One more coded call, with the log lent.
 pub fn replay_with(t: Progress, log: &mut [u64; 1599], x: Coded) -> Progress
-    requires { ⌜ (length (now log) ≡ 1599) × (t .refused < 18446744073709551615) ⌝ }
-    ensures progress { λ r. ⌜ r ≡ progress-of (replay-step (replayed-of t (now (log .entry))) x) ⌝ }
+    requires { ⌜ Going t (now log) ⌝ }
+    ensures progress { λ r. ⌜ r ≡ progress-of (t .sound) (replay-step (replayed-of t (now (log .entry))) x) ⌝ }
     ensures shifted { λ _. ⌜ now (log .exit) ≡ replay-step (replayed-of t (now (log .entry))) x .account .log ⌝ }
 {
     let state = t.state;
     match x {
         Coded::Known(c) => {
-            let r = account::call_with(state, log, c);
+            let r = make_call(state, log, t.sound, c);
             let x = r.answer;
             let next = r.state;
             let n = one_if_refused(x);
             Progress {
                 state: next,
                 refused: t.refused + n,
+                sound: t.sound,
             }
         }
         Coded::Unknown => Progress {
             state: state,
             refused: t.refused + 1,
+            sound: t.sound,
         },
     }
 }
 
 // One call as the reader hands it out, with the log lent.
 fn take_call(t: Progress, log: &mut [u64; 1599], s: Step) -> Progress
-    requires { ⌜ (length (now log) ≡ 1599) × (t .refused < 18446744073709551615) ⌝ }
-    ensures progress { λ r. ⌜ r ≡ progress-of (after-step (replayed-of t (now (log .entry))) s) ⌝ }
+    requires { ⌜ Going t (now log) ⌝ }
+    ensures progress { λ r. ⌜ r ≡ progress-of (t .sound) (after-step (replayed-of t (now (log .entry))) s) ⌝ }
     ensures shifted { λ _. ⌜ now (log .exit) ≡ after-step (replayed-of t (now (log .entry))) s .account .log ⌝ }
 {
     match s {
@@ -156,7 +176,7 @@ fn run_calls<'a, 'l>(
     from: Progress,
     log: &'l mut [u64; 1599],
 ) -> Progress
-    requires { ⌜ (8 * n ≤ length (now section)) × (length (now log) ≡ 1599) × (from .refused ≡ 0) ⌝ }
+    requires { ⌜ (8 * n ≤ length (now section)) × Starting from (now log) ⌝ }
     ensures { λ r. ⌜ replayed-of r (now (log .exit))
         ≡ run-first (account-of (from .state) (now (log .entry))) (now (section .entry)) n ⌝ }
 {
@@ -171,18 +191,57 @@ fn run_calls<'a, 'l>(
     t
 }
 
-// All calls of a calls section, on an account: one for each whole eight bytes.
+// All calls of a calls section, with the log lent, on an account that is known to be sound, or looked at by each call.
+fn run_section(section: &[u8], state: State, log: &mut [u64; 1599], known: bool) -> Progress
+    requires { ⌜ (length (now log) ≡ 1599) × SaidSound known (account-of state (now log)) ⌝ }
+    ensures { λ r. ⌜ replayed-of r (now (log .exit))
+        ≡ run-section (account-of state (now (log .entry))) (now (section .entry)) ⌝ }
+{
+    let from = Progress {
+        state: state,
+        refused: 0,
+        sound: known,
+    };
+    let n = section.len() / 8;
+    run_calls(section, n, from, log)
+}
+
+// All calls of a calls section, with the log lent: one for each whole eight bytes. The account is looked at once: if it
+// is sound it stays so. If not, each call looks, and is refused.
+pub fn section_with(section: &[u8], state: State, log: &mut [u64; 1599]) -> Progress
+    requires { ⌜ length (now log) ≡ 1599 ⌝ }
+    ensures { λ r. ⌜ replayed-of r (now (log .exit))
+        ≡ run-section (account-of state (now (log .entry))) (now (section .entry)) ⌝ }
+{
+    let known = account::parts_fit(state, log);
+    run_section(section, state, log, known)
+}
+
+// The same on a whole account.
 pub fn replay(section: &[u8], a: Account) -> Replayed
     ensures { λ r. ⌜ r ≡ run-section a (now (section .entry)) ⌝ }
 {
     let state = a.state;
     let mut log = a.log;
-    let from = Progress {
-        state: state,
-        refused: 0,
+    let t = section_with(section, state, &mut log);
+    let last = t.state;
+    let account = Account {
+        state: last,
+        log: log,
     };
-    let n = section.len() / 8;
-    let t = run_calls(section, n, from, &mut log);
+    Replayed {
+        account: account,
+        refused: t.refused,
+    }
+}
+
+// The same, where each call looks at the account for itself, as a call that comes alone does.
+pub fn replay_alone(section: &[u8], a: Account) -> Replayed
+    ensures { λ r. ⌜ r ≡ run-section a (now (section .entry)) ⌝ }
+{
+    let state = a.state;
+    let mut log = a.log;
+    let t = run_section(section, state, &mut log, false);
     let last = t.state;
     let account = Account {
         state: last,

@@ -2,6 +2,7 @@
 use Prim.Native.Nat.{ℕ}
 use mathlib.Core.List.{List}
 use Rattle.tariff.specs.declared.Plan.{Plan}
+use Rattle.state.specs.declared.State.{State}
 use Rattle.account.specs.Answers.{open-answer}
 use Rattle.replay.specs.declared.Replayed.{Replayed}
 use Rattle.replay.specs.Replay.{replay-of}
@@ -13,18 +14,22 @@ use Rattle.report.specs.declared.Report.{Report}
 use Rattle.report.specs.declared.Report.the-variants.{Lines, Refused}
 
 -- "day; paid in; credit; home charges; surcharges; L (or none); R; lifetime surcharged kB; refused calls"
-unfoldable pub figures-of : Replayed → Figures
-figures-of t = record {
-  day = t .account .state .day;
-  paid = t .account .state .money .paid;
-  credit = t .account .state .money .credit;
-  home = t .account .state .money .homecharges;
-  extra = t .account .state .money .surcharges;
-  limit = t .account .state .quota .allowance;
-  roamed = t .account .state .quota .roamed;
-  past = t .account .state .meters .surcharged .kb;
-  refused = t .refused;
+unfoldable pub figures-with : State → ℕ → Figures
+figures-with s n = record {
+  day = s .day;
+  paid = s .money .paid;
+  credit = s .money .credit;
+  home = s .money .homecharges;
+  extra = s .money .surcharges;
+  limit = s .quota .allowance;
+  roamed = s .quota .roamed;
+  past = s .meters .surcharged .kb;
+  refused = n;
 }
+
+-- those of an account after its calls
+abbrev pub figures-of : Replayed → Figures
+figures-of t = figures-with (t .account .state) (t .refused)
 
 -- the calls of a file, one after the other, on an account opened under a plan
 abbrev pub trip-run : List ℕ → Plan → Replayed

@@ -1,13 +1,14 @@
 // The figures that the program `statement` prints, from the bytes of a trip file. Document 01, "Figures".
 use account::Account;
 use replay::Replayed;
+use state::State;
 use tariff::Allowance;
 use tariff::Plan;
 use tripfile::Read;
 ghost use mathlib.Core.Path.{_≡_};
 ghost use Rattle.tripfile.specs.Reading.{read-of};
 ghost use Rattle.report.specs.Handed.{ReaderHandsOutCalls};
-ghost use Rattle.report.specs.Statement.{figures-of, report-of, trip-run};
+ghost use Rattle.report.specs.Statement.{figures-with, figures-of, report-of, trip-run};
 
 // The nine figures.
 pub struct Figures {
@@ -28,11 +29,10 @@ pub enum Report {
     Refused(u64),
 }
 
-fn show_figures(t: Replayed) -> Figures
-    ensures { λ r. ⌜ r ≡ figures-of t ⌝ }
+// The figures of an account after its calls, of which so many were refused.
+pub fn show_figures(s: State, refused: usize) -> Figures
+    ensures { λ r. ⌜ r ≡ figures-with s refused ⌝ }
 {
-    let a = t.account;
-    let s = a.state;
     let quota = s.quota;
     let limit = quota.allowance;
     let surcharged = s.meters.surcharged;
@@ -45,7 +45,7 @@ fn show_figures(t: Replayed) -> Figures
         limit: limit,
         roamed: s.quota.roamed,
         past: surcharged.kb,
-        refused: t.refused,
+        refused: refused,
     }
 }
 
@@ -64,6 +64,19 @@ pub fn run_trip(file: &[u8], plan: Plan, calls: usize) -> Replayed
     replay::replay(sections::part(file, 2), a)
 }
 
+// The figures after them. The log is in one place, and no whole account is held.
+fn trip_figures(file: &[u8], plan: Plan, calls: usize) -> Figures
+    requires { ⌜ read-of (now file) ≡ Read.Trip plan calls ⌝ }
+    ensures { λ r. ⌜ r ≡ figures-of (trip-run (now (file .entry)) plan) ⌝ }
+{
+    let opened = account::open_with(plan);
+    let state = opened.state;
+    let mut log = presence::log::log_empty();
+    let t = replay::section_with(sections::part(file, 2), state, &mut log);
+    let last = t.state;
+    show_figures(last, t.refused)
+}
+
 // The figures of a trip file's bytes.
 pub fn statement_of(file: &[u8]) -> Report
     ensures { λ r. ⌜ r ≡ report-of (now (file .entry)) ⌝ }
@@ -71,8 +84,7 @@ pub fn statement_of(file: &[u8]) -> Report
     let read = tripfile::reading::read(file);
     match read {
         Read::Trip { plan, calls } => {
-            let t = run_trip(file, plan, calls);
-            let f = show_figures(t);
+            let f = trip_figures(file, plan, calls);
             Report::Lines(f)
         }
         Read::Refused(n) => Report::Refused(n),

@@ -1,6 +1,6 @@
 -- The bounds of what a use makes of the sums, on a sound account. Assumes nothing.
 use Prim.Native.Nat.{_+_, _-_, _≤_}
-use mathlib.Core.Path.{_≡_, refl}
+use mathlib.Core.Path.{_≡_, refl, _∙_, ap}
 use native.Mathlib.Nat.{mul-le-mul}
 use native.Mathlib.Omega.{arith}
 use Rattle.tariff.specs.declared.Units.{Units}
@@ -18,7 +18,7 @@ use Rattle.presence.specs.Log.{lifetime-most}
 use Rattle.state.specs.declared.State.{State}
 use Rattle.state.specs.declared.Bill.{Bill}
 use Rattle.state.specs.Use.{billable, roaming, billed-of, billed-after, newly-surcharged, basis-after, home-after, extra-after, cost}
-use Rattle.state.specs.Needs.{Ready, Steady, bill-of}
+use Rattle.state.specs.Needs.{Ready, Steady, Spends, bill-of}
 use Rattle.state.proofs.Adding.{home-grows, extra-grows}
 use Rattle.state.proofs.Bounds.{billable-bounded, roaming-bounded, billed-of-bounded, newly-bounded}
 use Rattle.state.proofs.Soundness.{Counters, counters-tell, charges-tell, plan-of-state}
@@ -98,6 +98,13 @@ pub counted-in : (a : State) (u : Units) → Ready a u → Counted a u
 counted-in a u r =
     let f = counters-tell a (r .counters) in
     omega (arith, r .room, f .monthly-ok, f .roamed-ok, billable-bounded (a .place) u, roaming-bounded (a .place) u, counted-bounded (a .plan .form) (billable (a .place) u .kb))
+
+-- what the bill says of H and R
+pub counted-is : {a : State} {c : Units} {b : Bill} → Spends a c b → b .counted ≡ counted-kb (a .plan .form) (billable (a .place) c .kb)
+counted-is s = ap (λ (x : Bill). x .counted) (s .bill-is) ∙ unfold bill-of in refl
+
+pub zone-is : {a : State} {c : Units} {b : Bill} → Spends a c b → b .zone ≡ roaming (a .place) c .kb
+zone-is s = ap (λ (x : Bill). x .zone) (s .bill-is) ∙ unfold bill-of in refl
 
 pub cost-is : (a : State) (u : Units) → cost a u ≡ (bill-of a u .home - a .money .homecharges) + (bill-of a u .extra - a .money .surcharges)
 unfolding cost bill-of

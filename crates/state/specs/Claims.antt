@@ -19,7 +19,7 @@ use Rattle.state.specs.Use.{charged-units, cost, spent}
 abbrev pub UsesAddUp : Type 0
 UsesAddUp = (a : State) (u c v d : Units) → charges-sound a ≡ true → spent (spent a u c) v d ≡ spent a (u ⊕ v) (c ⊕ d)
 
--- a use of no fewer units of each kind costs no less: so halving finds the largest use that Afford tells
+-- a use of no fewer units of each kind costs no less
 abbrev pub CostGrows : Type 0
 CostGrows = (a : State) (u v : Units) → AtMost u v → cost a u ≤ cost a v
 

@@ -15,7 +15,9 @@ use Rattle.presence.specs.Day.{day-units}
 use Rattle.presence.specs.Log.{units-over, lifetime-most}
 use Rattle.state.specs.declared.State.{State}
 use Rattle.state.specs.declared.Bill.{Bill}
-use Rattle.state.specs.Use.{billed-after, newly-surcharged, basis-after, home-after, extra-after, cost}
+use Rattle.tariff.specs.Charges.{counted-kb}
+use Rattle.state.specs.Use.{billable, roaming, billed-after, newly-surcharged, basis-after}
+use Rattle.state.specs.Use.{home-after, extra-after, cost}
 use Rattle.state.specs.Sound.{chargeable, counters-sound, charges-sound}
 
 -- a place where the home price bears
@@ -33,6 +35,8 @@ bill-of a c = record {
   basis = basis-after a c;
   home = home-after a c;
   extra = extra-after a c;
+  counted = counted-kb (a .plan .form) (billable (a .place) c .kb);
+  zone = roaming (a .place) c .kb;
 }
 
 -- the account's counters are sound, and the units charged, which the lifetime units with charged seconds can take, are

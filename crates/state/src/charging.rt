@@ -16,7 +16,7 @@ use tariff::Plan;
 use tariff::Units;
 ghost use mathlib.Core.Path.{_≡_};
 ghost use mathlib.Core.Bool.{true, false};
-ghost use Prim.Native.Nat.{_+_, _-_, _≤_, _<_, max};
+ghost use Prim.Native.Nat.{_+_, _-_, _≤_, _<_};
 ghost use Rattle.tariff.specs.Tests.{between};
 ghost use Rattle.tariff.specs.Units.{_⊕_, AtMost};
 ghost use Rattle.presence.specs.Log.{lifetime-most};
@@ -26,12 +26,6 @@ ghost use Rattle.state.specs.Sound.{counters-sound};
 ghost use Rattle.state.specs.Reasons.{overfills, use-state};
 ghost use Rattle.state.specs.Needs.{bears, bill-of, Ready, Steady, Spends};
 
-fn greater(m: u64, n: u64) -> u64
-    ensures { λ r. ⌜ r ≡ max m n ⌝ }
-{
-    if m < n { n } else { m }
-}
-
 // As how many units a record of n units is charged: an outgoing one in the zone as 30 at least.
 fn charged_as(w: Location, k: Kind, n: u64) -> u64
     ensures { λ r. ⌜ r ≡ charged-as w k n ⌝ }
@@ -39,14 +33,14 @@ fn charged_as(w: Location, k: Kind, n: u64) -> u64
     let zone = presence::days::zone_at(w);
     match k {
         Kind::Data => n,
-        Kind::Outgoing => choice::pick(zone, greater(n, 30), n),
+        Kind::Outgoing => choice::pick(zone, choice::greater(n, 30), n),
         Kind::Incoming => n,
         Kind::Sms => n,
     }
 }
 
 // The units that a record of n units is charged for.
-pub fn charged_units(w: Location, k: Kind, n: u64) -> Units
+fn charged_units(w: Location, k: Kind, n: u64) -> Units
     ensures { λ r. ⌜ r ≡ charged-units w k n ⌝ }
 {
     let m = charged_as(w, k, n);
@@ -63,7 +57,8 @@ fn bears_at(p: Place) -> bool
     }
 }
 
-fn bears_home_price(w: Location) -> bool
+// Does the home price bear there?
+pub fn bears_home_price(w: Location) -> bool
     ensures { λ r. ⌜ r ≡ bears w ⌝ }
 {
     match w {
@@ -139,11 +134,12 @@ fn surcharged_of(s: Services, l: Allowance, r: u64, z: Units) -> Units
 }
 
 // What a use charged as c makes of the sums.
-pub fn work_out(a: State, c: Units) -> Bill
+fn work_out(a: State, c: Units) -> Bill
     requires { ⌜ Ready a c ⌝ }
     ensures { λ r. ⌜ r ≡ bill-of a c ⌝ }
 {
     let plan = a.plan;
+    let form = plan.form;
     let place = a.place;
     let quota = a.quota;
     let allowance = quota.allowance;
@@ -158,12 +154,15 @@ pub fn work_out(a: State, c: Units) -> Bill
     );
     let home = tariff::charges::home_of(plan, billed);
     let extra = tariff::charges::surcharges_from(basis);
+    let counted = tariff::charges::counted_of(form, borne.kb);
     Bill {
         billed: billed,
         fresh: fresh,
         basis: basis,
         home: home,
         extra: extra,
+        counted: counted,
+        zone: zone.kb,
     }
 }
 
@@ -172,19 +171,14 @@ fn spend(mut a: State, u: Units, c: Units, b: Bill) -> State
     requires { ⌜ Spends a c b × AtMost (a .meters .lifetime ⊕ u) lifetime-most ⌝ }
     ensures { λ r. ⌜ r ≡ spent a u c ⌝ }
 {
-    let plan = a.plan;
     let place = a.place;
-    let form = plan.form;
-    let borne = billable_of(place, c);
-    let zone = roaming_of(place, c);
-    let counted = tariff::charges::counted_of(form, borne.kb);
     let lifetime = tariff::amounts::plus(a.meters.lifetime, u);
     let surcharged = tariff::amounts::plus(a.meters.surcharged, b.fresh);
     let today = presence::days::added(place, u, presence::days::marked(place, a.today));
     let billed = b.billed;
     let basis = b.basis;
-    let monthly = a.quota.monthly + counted;
-    let roamed = a.quota.roamed + zone.kb;
+    let monthly = a.quota.monthly + b.counted;
+    let roamed = a.quota.roamed + b.zone;
     let chargedseconds = a.meters.chargedseconds + c.outgoing;
     let credit = a.money.credit - ((b.home - a.money.homecharges) + (b.extra - a.money.surcharges));
     a.money.credit = credit;
@@ -218,11 +212,9 @@ fn charge_on(a: State, k: Kind, c: Units, b: Bill) -> Charge
     requires { ⌜ Spends a c b ⌝ }
     ensures { λ r. ⌜ r ≡ charge-of a k c ⌝ }
 {
-    let place = a.place;
     let quota = a.quota;
     let allowance = quota.allowance;
-    let zone = roaming_of(place, c);
-    let notice = notice_at(allowance, a.quota.roamed, a.quota.roamed + zone.kb);
+    let notice = notice_at(allowance, a.quota.roamed, a.quota.roamed + b.zone);
     let surcharged = tariff::amounts::amount(k, b.fresh);
     let charged = tariff::amounts::amount(k, c);
     Charge {
@@ -243,7 +235,7 @@ pub fn within(l: u64, n: u64, h: u64) -> bool
 
 // Refusal 5: would the use pass a limit, that of the lifetime units or that of the charged seconds? Asked before the
 // charged units are made in `use_of`: so the compiled code of a use copies an account once and not twice.
-pub fn overfills(a: State, k: Kind, n: u64) -> bool
+fn overfills(a: State, k: Kind, n: u64) -> bool
     requires { ⌜ (counters-sound a ≡ true) × (n ≤ 1000000000) ⌝ }
     ensures { λ r. ⌜ r ≡ overfills a k n ⌝ }
 {

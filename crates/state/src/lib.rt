@@ -1,7 +1,7 @@
 // All of the account but its log, and what each call makes of it: document 01, "Account and its calls" and "What each
 // operation declines".
 pub mod charging;
-mod choice;
+pub mod choice;
 pub mod claims;
 pub mod moves;
 pub mod sound;
@@ -75,11 +75,14 @@ pub struct StateApplied {
     pub state: State,
 }
 
-// What a use makes of the sums.
+// What a use makes of the sums: priced units, newly surcharged units, the sums of cap x surcharged units, home charges
+// and surcharges after it; and the kB that it adds to H and to R.
 pub struct Bill {
     pub billed: Units,
     pub fresh: Units,
     pub basis: Units,
     pub home: u64,
     pub extra: u64,
+    pub counted: u64,
+    pub zone: u64,
 }

@@ -145,17 +145,16 @@ fn top_ups(a: Account, n: u64) -> Tally {
 fn affords(a: Account, n: u64) -> Tally {
     let mut held = a;
     let mut accepted: u64 = 0;
+    let mut shown: u64 = 0;
     let mut i: u64 = 0;
     while i < n {
         let r = held.afford(Kind::Data);
         held = r.account;
         let answer = r.answer;
         accepted += one_if_accepted(answer);
+        shown = most(answer);
         i += 1;
     }
-    let last = held.afford(Kind::Data);
-    let answer = last.answer;
-    let shown = most(answer);
     Tally {
         accepted: accepted,
         shown: shown,

@@ -91,10 +91,13 @@ fn counts(differ: &Differ) -> String {
         trips,
         files,
         writes,
+        one_by_one,
         days,
         ..
     } = differ;
-    format!("{trips} trips, {files} files, {writes} writes, {days} days")
+    format!(
+        "{trips} trips, {files} files, {one_by_one} calls one by one, {writes} writes, {days} days"
+    )
 }
 
 /// Where a mismatch was found, its seed, and the mismatch.

@@ -1,49 +1,21 @@
 -- `account::call_with` meets its contract. Assumes nothing.
-use mathlib.Core.Path.{sym}
-use Rattle.account.specs.Answers.{account-of}
-use Rattle.account.proofs.Returns.{register-keeps, use-keeps, top-up-keeps}
-use Rattle.account.proofs.Affords.{log-afforded, afford-answered}
+use Rattle.account.proofs.Returns.{log-of, unsound}
+use Rattle.account.specs.Answers.{account-of, applied, applied-state}
+use borrow.Author.Tests.{not-true, not-false}
+use mathlib.Core.Path.{sym, _∙_, ap}
 use borrow.Author.Needs.{needs}
 use Rattle.account.proofs.call_with.Statement.{statement}
 use Rattle.account.proofs.call_with.Tie as tie
 
 returns : tie.Need-returns
-returns c = let a = account-of (c .before .before .before .before .before .args .state) (c .before .before .before .before .before .args .log .now) in
-    (simp (c .before .before .before .c .given .1) (c .register-with .ensures), simp (c .before .before .before .c .given .1) (sym (register-keeps a _)))
+unfolding applied
+returns c = let a = c .before .before .before .args in
+    let e = unsound (account-of (a .state) (a .log .now)) (a .c) (sym (c .before .parts-fit .ensures) ∙ not-true (c .before .parts-fit .result) (c .if1 .taken)) in
+    (ap applied-state e, ap log-of e)
 
-returns-2 : tie.Need-returns-2
-returns-2 c = let a = account-of (c .before .before .before .before .before .args .state) (c .before .before .before .before .before .args .log .now) in
-    (simp (c .before .before .before .c2 .given .1) (c .use-with .ensures), simp (c .before .before .before .c2 .given .1) (sym (use-keeps a _ _)))
-
-returns-3 : tie.Need-returns-3
-returns-3 c = let a = account-of (c .before .before .before .before .before .args .state) (c .before .before .before .before .before .args .log .now) in
-    (simp (c .before .before .before .c3 .given .1) (c .top-up-with .ensures), simp (c .before .before .before .c3 .given .1) (sym (top-up-keeps a _)))
-
-returns-4 : tie.Need-returns-4
-returns-4 c =
-    (simp (c .before .before .enum-told .given .1) (c .next-day-with .ensures .0), simp (c .before .before .enum-told .given .1) (c .next-day-with .ensures .1))
-
-returns-5 : tie.Need-returns-5
-returns-5 c = let a = account-of (c .before .before .before .before .before .before .args .state) (c .before .before .before .before .before .before .args .log .now) in
-    (simp (c .afford-applied .ensures, c .before .afford-with .ensures, c .before .before .before .before .c4 .given .1) (afford-answered a _), simp (c .before .before .before .before .c4 .given .1) (sym (log-afforded a _)))
+sound-requires : tie.Need-call-sound-requires
+sound-requires c κs =
+    (search needs, sym (c .before .before .parts-fit .ensures) ∙ not-false (c .before .before .parts-fit .result) (c .before .if1 .left))
 
 pub call-with-spec : {M : Type 1} → statement M
-call-with-spec =
-    tie.close
-    (tie.spec
-    (λ c. search needs)
-    (λ c κs. search needs)
-    (λ c. search needs)
-    (λ c κs. search needs)
-    (λ c. search needs)
-    (λ c κs. search needs)
-    (λ c. search needs)
-    (λ c κs. search needs)
-    (λ c. search needs)
-    (λ c κs. search needs)
-    (λ c κs. search needs)
-    returns
-    returns-2
-    returns-3
-    returns-4
-    returns-5)
+call-with-spec = tie.close (tie.spec (λ c κs. search needs) returns sound-requires (λ c. search needs))

@@ -9,7 +9,7 @@ returns : tie.Need-returns
 unfolding replay-step
 returns c = let d = c .before .before .before .before .before .before .before .before .before in
     let t = replayed-of (d .args .t) (d .args .log .now) in
-    (simp (c .before .before .before .before .before .before .x .given .1) (replay-known t _ (c .before .before .before .call-with .result) (c .before .one-if-refused .result) (c .before .before .before .call-with .ensures .0) (c .before .one-if-refused .ensures .0)), simp (c .before .before .before .before .before .before .x .given .1) (c .before .before .before .call-with .ensures .1))
+    (simp (c .before .before .before .before .before .before .x .given .1) (replay-known t _ (c .before .before .before .make-call .result) (c .before .one-if-refused .result) (c .before .before .before .make-call .ensures .0) (c .before .one-if-refused .ensures .0) (d .args .t .sound)), simp (c .before .before .before .before .before .before .x .given .1) (c .before .before .before .make-call .ensures .1))
 
 returns-2 : tie.Need-returns-2
 unfolding replay-step

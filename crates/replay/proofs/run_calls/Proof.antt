@@ -70,8 +70,8 @@ use Rattle.reader.proofs.next as next
 use Rattle.reader.proofs.next.Symbol as next-def
 use Rattle.reader.proofs.next.Symbol.{name as #reader·next}
 use Rattle.reader.proofs.next.Met as next-thm
-use Rattle.replay.specs.Replay.{run-first, after-step}
-use Rattle.replay.proofs.Running.{run-none, passed-call, step-keeps-size, turned, few-refused}
+use Rattle.replay.specs.Replay.{run-first, after-step, SaidSound, Starting}
+use Rattle.replay.proofs.Running.{run-none, passed-call, step-keeps-size, stays-known, turned, few-refused}
 use Rattle.replay.proofs.Walk.{tests}
 use Rattle.replay.proofs.take_call as take-call
 use Rattle.replay.proofs.take_call.Symbol as take-call-def
@@ -118,7 +118,7 @@ module _ {M : Type 1} (𝓤 : URA M) (H : Heap 𝓤) (A : Atoms 𝓤) (mem : Mem
   TakeCall = tripleOf 𝓤 H A take-call.signature (take-call.spec 𝓤 H A mem run)
 
 module _ {M : Type 1} (𝓤 : URA M) (H : Heap 𝓤) (A : Atoms 𝓤) (W : Given 𝓤 H A) (mem : Memory → SProp 𝓤) (run : Routine → Fun 𝓤) (κ κ′ : Lft) (q q′ : Share) (s : RefT (List ℕ)) (n : ℕ) (begun : Progress) (b o : ℕ) (γ : GName) (xs : List ℕ)
-    (gs : Is (ShrSlice (named 0) κ u8) s (sliceVal (s .ptr) (length (s .now)) ∷ [])) (gn : n < 2 ^ 64) (gt : Is P.the-row begun (LL.vals P.the-type P′.the-laws begun)) (needed : (8 * n ≤ length (now s)) × (length xs ≡ 1599) × (begun .refused ≡ 0)) where
+    (gs : Is (ShrSlice (named 0) κ u8) s (sliceVal (s .ptr) (length (s .now)) ∷ [])) (gn : n < 2 ^ 64) (gt : Is P.the-row begun (LL.vals P.the-type P′.the-laws begun)) (needed : (8 * n ≤ length (now s)) × Starting begun xs) where
   abbrev log-at : GName → List ℕ → RefT (List ℕ)
   log-at δ ys = record { ptr = (b, o); name = δ; now = ys }
 
@@ -172,6 +172,7 @@ module _ {M : Type 1} (𝓤 : URA M) (H : Heap 𝓤) (A : Atoms 𝓤) (W : Given
     is : Is P.the-row t (w ∷ [])
     size : length log ≡ 1599
     same : replayed-of t log ≡ run-first a₀ (now s) i
+    known : SaidSound (t .sound) (account-of (t .state) log)
 
   abbrev Nearer : State → State → Type 0
   Nearer st′ st = n - st′ .i < n - st .i
@@ -241,12 +242,12 @@ module _ {M : Type 1} (𝓤 : URA M) (H : Heap 𝓤) (A : Atoms 𝓤) (W : Given
         goes-take : st .i < n → (μ : ℕ) (δ : GName) (y : Step) (z : Val)
             → ent 𝓤 (sep 𝓤 (A .lft (μ ∷ []) fullShare) (sep 𝓤 (sem 𝓤 H A (log-own (μ ∷ []) δ (st .log))) (sem 𝓤 H A (S.the-row .own y (z ∷ []))))) (TakeCall 𝓤 H A mem run .pre (to-take μ δ y z))
         goes-take l μ δ y z =
-            qed W (‵ (flft (μ ∷ []) fullShare) ∷ ‵ (log-own (μ ∷ []) δ (st .log)) ∷ ‵ (S.the-row .own y (z ∷ [])) ∷ []) ∵ says ! (st .size, few-refused a₀ (now s) (st .i) n (st .t) (st .log) l gn (st .same)) $
+            qed W (‵ (flft (μ ∷ []) fullShare) ∷ ‵ (log-own (μ ∷ []) δ (st .log)) ∷ ‵ (S.the-row .own y (z ∷ [])) ∷ []) ∵ says ! (record { size = st .size; room = few-refused a₀ (now s) (st .i) n (st .t) (st .log) l gn (st .same); known = st .known }) $
             nothing ! $ move ! (1 ∷ 0 ∷ []) $ join ! $ frame ! $ nothing ! $ move ! (2 ∷ 0 ∷ []) $ fjoin ! $ move ! (1 ∷ 0 ∷ []) $ fjoin ! $
             owned ! P.the-row (Is P.the-row) (LL.makes P.the-type P′.the-plain 𝓤 H A) (st .t) _ (st .is) $ fjoin ! $ done !
 
         abbrev later-state : st .i < n → (y : Step) (z : Reader) → NextSaid y z → (p : Progress) (m : Val) (zs : List ℕ)
-            → p ≡ progress-of (after-step (replayed-of (st .t) (st .log)) y) → zs ≡ after-step (replayed-of (st .t) (st .log)) y .account .log → Is P.the-row p (m ∷ []) → State
+            → p ≡ progress-of (st .t .sound) (after-step (replayed-of (st .t) (st .log)) y) → zs ≡ after-step (replayed-of (st .t) (st .log)) y .account .log → Is P.the-row p (m ∷ []) → State
         later-state l y z e p m zs f g isp = record {
           i = st .i + 1;
           r = z;
@@ -260,6 +261,7 @@ module _ {M : Type 1} (𝓤 : URA M) (H : Heap 𝓤) (A : Atoms 𝓤) (W : Given
           is = isp;
           size = ap length g ∙ step-keeps-size (replayed-of (st .t) (st .log)) y (st .size);
           same = turned a₀ (now s) (st .i) n (st .t) (st .log) y p zs l (needed .0) (st .same) (e .0 ∙ ap (λ (c : RefT (List ℕ)). decoded (now c) (st .r .at)) (st .refers) ∙ ap (decoded (now s)) (st .stands)) f g;
+          known = stays-known (st .t) (st .log) y p zs (st .known) f g;
         }
 
         turns : Sq W (At st) (runs C Λ En mir.turn-1 (anyQ (Turned st)))
@@ -290,8 +292,8 @@ module _ {M : Type 1} (𝓤 : URA M) (H : Heap 𝓤) (A : Atoms 𝓤) (W : Given
             calls-at ! (fmOf 𝓤 H (W .laws) 𝓣) (TakeCall 𝓤 H A mem run) known-take (to-take μ δ′ y c) (and-then ! (load ! (from ! (stop !)) (look ! 19 refl)) (and-then ! (load ! (from ! (stop !)) (look ! 7 refl)) (and-then ! (load ! (from ! (stop !)) (look ! 15 refl)) (no-more !)))) (λ m.
             use1 W (later (some (λ (p : Progress). ((‵ (flft (μ ∷ []) fullShare) ⊛ ‵ ftrue) ⊛ ‵ (P.the-row .own p (m ∷ []))) ⊛ raw (ensured 𝓤 H A take-call.ended (take-call.clauses 𝓤 H A mem run) (μ ∷ [], tt) (st .t, (log-at δ′ (st .log), (y, tt))) tt p)))) (id⊢ 𝓤 _) $ await ! tt $ pick ! (λ p.
             split ! $ move ! (1 ∷ []) $ use1 W (some (λ (ys : Unit {0} × (List ℕ × (Unit {0} × Unit {0}))). ‵ (lasts take-call.ended (μ ∷ [], tt) (st .t, (log-at δ′ (st .log), (y, tt))) ys)
-            ⊛ raw (fact 𝓤 (p ≡ progress-of (after-step (replayed-of (st .t) (st .log)) y))) ⊛ raw (fact 𝓤 (ys .1 .0 ≡ after-step (replayed-of (st .t) (st .log)) y .account .log)))) (id⊢ 𝓤 _) $ pick ! (λ ys.
-            split ! $ move ! (1 ∷ []) $ split ! $ heard ! (p ≡ progress-of (after-step (replayed-of (st .t) (st .log)) y)) (λ f. heard ! (ys .1 .0 ≡ after-step (replayed-of (st .t) (st .log)) y .account .log) (λ g.
+            ⊛ raw (fact 𝓤 (p ≡ progress-of (st .t .sound) (after-step (replayed-of (st .t) (st .log)) y))) ⊛ raw (fact 𝓤 (ys .1 .0 ≡ after-step (replayed-of (st .t) (st .log)) y .account .log)))) (id⊢ 𝓤 _) $ pick ! (λ ys.
+            split ! $ move ! (1 ∷ []) $ split ! $ heard ! (p ≡ progress-of (st .t .sound) (after-step (replayed-of (st .t) (st .log)) y)) (λ f. heard ! (ys .1 .0 ≡ after-step (replayed-of (st .t) (st .log)) y .account .log) (λ g.
             fsplit ! $ drop ! $ fsplit ! $ move ! (1 ∷ []) $ drop ! $ move ! (1 ∷ []) $ split ! $ move ! (1 ∷ []) $
             -- [the progress; the loan's token; the last list; the log's lender's part; _5; the section's token; what the reader owns; true; what s owns; _12; … from 9]
             peeks ! P.the-row (Is P.the-row) (shows 𝓤 H A P.the-row) p (m ∷ []) (λ isp.
@@ -326,12 +328,13 @@ module _ {M : Type 1} (𝓤 : URA M) (H : Heap 𝓤) (A : Atoms 𝓤) (W : Given
       refers = e .0;
       stands = e .1;
       is = gt;
-      size = needed .1;
+      size = needed .1 .size;
       same = begins;
+      known = needed .1 .known;
     }
       where
         begins : replayed-of begun xs ≡ run-first a₀ (now s) 0
-        begins = (λ i. record { account = a₀; refused = needed .2 i }) ∙ sym (run-none a₀ (now s))
+        begins = (λ i. record { account = a₀; refused = needed .1 .none i }) ∙ sym (run-none a₀ (now s))
 
     walk : ent 𝓤 (onEntry 𝓤 H A run-calls.signature (κ, (κ′, tt)) (q, (q′, tt)) x at) (WpFn 𝓤 H C Λ code.function (v ∷ vint w64 n ∷ LL.val P.the-type P′.the-laws begun ∷ vptr b o ∷ []) Post)
     unfolding first-state
@@ -362,7 +365,7 @@ module _ {M : Type 1} (𝓤 : URA M) (H : Heap 𝓤) (A : Atoms 𝓤) (W : Given
       → Walks 𝓤 H A run-calls.ended stayed (WpFn 𝓤 H (𝓣 .C) (𝓣 .Λ) code.function) (run-calls.clauses 𝓤 H A mem run)
   run-calls-walks 𝓣 known-new known-next known-take = walked 𝓤 H A run-calls.ended stayed (run-calls.clauses 𝓤 H A mem run) (WpFn 𝓤 H (𝓣 .C) (𝓣 .Λ) code.function)
       (λ κs. (slice-vals, (uint-vals w64, (LL.vals P.the-type P′.the-laws, (ptr-vals, tt))))) (λ κs. (shr-slice-tells (named 0) (κs .0) u8, (uint-tells w64, (LL.tells P.the-type P′.the-laws, (mut-tells (named 1) (κs .1 .0) Log, tt)))))
-      (λ κs qs bounds a g are. needs 𝓤 ((8 * a .1 .0 ≤ length (now (a .0))) × (length (now (a .1 .1 .1 .0)) ≡ 1599) × (a .1 .1 .0 .refused ≡ 0)) _ (λ needed.
+      (λ κs qs bounds a g are. needs 𝓤 ((8 * a .1 .0 ≤ length (now (a .0))) × Starting (a .1 .1 .0) (now (a .1 .1 .1 .0))) _ (λ needed.
       walk 𝓤 H A W mem run (κs .0) (κs .1 .0) (qs .0) (qs .1 .0) (a .0) (a .1 .0) (a .1 .1 .0) (a .1 .1 .1 .0 .ptr .0) (a .1 .1 .1 .0 .ptr .1) (a .1 .1 .1 .0 .name) (a .1 .1 .1 .0 .now) (are .0) (are .1 .0 .1) (are .1 .1 .0) needed 𝓣 known-new known-next known-take))
 
 run-calls-meets : {M : Type 1} (𝓤 : URA M) (H : Heap 𝓤) (A : Atoms 𝓤) → Given 𝓤 H A → (mem : Memory → SProp 𝓤) (run : Routine → Fun 𝓤) (𝓣 : Tables 𝓤 H)

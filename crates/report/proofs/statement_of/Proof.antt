@@ -5,12 +5,12 @@ use borrow.Author.Needs.{needs}
 use Rattle.report.proofs.statement_of.Statement.{statement}
 use Rattle.report.proofs.statement_of.Tie as tie
 
-run-trip-requires : tie.Need-run-trip-requires
-run-trip-requires c κs = sym (c .before .before .before .read .ensures) ∙ c .before .read2 .given .1
+trip-figures-requires : tie.Need-trip-figures-requires
+trip-figures-requires c κs = sym (c .before .before .before .read .ensures) ∙ c .before .read2 .given .1
 
 returns : tie.Need-returns
-returns c = let e = sym (c .before .before .before .before .before .read .ensures) ∙ c .before .before .before .read2 .given .1 in
-    simp (c .show-figures .ensures, c .before .run-trip .ensures) (reported _ _ _ e)
+returns c = let e = sym (c .before .before .before .before .read .ensures) ∙ c .before .before .read2 .given .1 in
+    simp (c .trip-figures .ensures) (reported _ _ _ e)
 
 returns-2 : tie.Need-returns-2
 returns-2 c = declined _ _ (sym (c .before .before .before .read .ensures) ∙ c .before .read3 .given .1)
@@ -21,8 +21,7 @@ statement-of-spec =
     (tie.spec
     (λ c κs. search needs)
     (λ c. search needs)
-    run-trip-requires
-    (λ c κs. search needs)
+    trip-figures-requires
     (λ c. search needs)
     returns
     returns-2)

@@ -1,47 +1,45 @@
 -- `account::afford::most_of` meets its contract. Assumes nothing.
-use Rattle.presence.specs.Day.{is-placed}
-use Rattle.account.specs.Largest.{most-units, use-accepted}
-use Rattle.account.proofs.Search.{Between, refused-on, refused-many, largest-is}
+use Rattle.quotes.proofs.Quoting.{quotable}
+use Rattle.state.proofs.Soundness.{counters-tell}
+use Rattle.account.proofs.Search.{Between, refused-on, most-is}
 use Prim.Native.Nat.{_+_, _-_, _/_}
-use mathlib.Core.Bool.{true}
-use mathlib.Core.Path.{_≡_, sym, _∙_}
+use mathlib.Core.Path.{sym, _∙_}
 use native.Mathlib.Omega.{arith}
+use borrow.Author.Needs.{needs}
 use Rattle.account.proofs.afford.most_of.Statement.{statement}
 use Rattle.account.proofs.afford.most_of.Tie as tie
 
 abbrev Inv-loop : tie.InvT-loop
-Inv-loop a k lo₀ hi₀ lo hi = (is-placed (a .place) ≡ true) × Between a k lo hi
+Inv-loop q lo₀ hi₀ lo hi = Between q lo hi
 
 abbrev μ-loop : tie.MeasureT-loop
-μ-loop a k lo₀ hi₀ lo hi = hi - lo
+μ-loop q lo₀ hi₀ lo hi = hi - lo
 
 loop-holds : tie.Need-loop-holds Inv-loop μ-loop
-loop-holds c = (c .pre .1, record { order = omega arith; top = omega arith; passes = λ h. absurd (omega arith); none = λ m h. refused-many (c .args .a) (c .args .k) m h })
+loop-holds c = record { order = omega arith; top = omega arith; passes = λ h. absurd (omega arith); none = λ m h l. absurd (omega arith) }
 
-affords-requires : tie.Need-affords-requires Inv-loop μ-loop
-affords-requires c κs = record { steady = c .before .before .pre .0; somewhere = c .before .before .pre .1; some = omega arith; few = omega arith }
+within-quote-requires : tie.Need-within-quote-requires Inv-loop μ-loop
+within-quote-requires c κs = let d = c .before .before .before in
+    (rw (c .before .before .quote-of .ensures) (quotable (d .args .a) (counters-tell (d .args .a) (d .pre .0 .counters)) (d .args .k)), omega (arith, c .before .loop .inv .top))
 
 loop-again : tie.Need-loop-again Inv-loop μ-loop
-loop-again c = let b = c .before .before .before .loop in
-    (b .inv .0, record { order = omega arith; top = b .inv .1 .top; passes = λ h. sym (c .before .affords .ensures) ∙ c .if1 .taken; none = b .inv .1 .none })
+loop-again c = let b = c .before .before .before .loop .inv in
+    record { order = omega arith; top = b .top; passes = λ h. sym (c .before .within-quote .ensures) ∙ c .if1 .taken; none = b .none }
 
 loop-again-2 : tie.Need-loop-again-2 Inv-loop μ-loop
 loop-again-2 c = let b = c .before .before .before .loop in
-    let a = c .before .before .before .before .args in
-    let mid = b .lo + (b .hi - b .lo + 1) / 2 in (
-      b .inv .0,
-      record {
-        order = omega arith;
-        top = omega arith;
-        passes = b .inv .1 .passes;
-        none = λ m h. refused-on (a .a) (a .k) mid m (b .inv .0) (omega arith) (omega arith) (omega arith) (sym (c .before .affords .ensures) ∙ c .if1 .left);
-      },
-    )
+    let mid = b .lo + (b .hi - b .lo + 1) / 2 in
+    record {
+      order = omega arith;
+      top = omega (arith, b .inv .top);
+      passes = b .inv .passes;
+      none = λ m h l. refused-on _ mid m (omega arith) (sym (c .before .within-quote .ensures) ∙ c .if1 .left);
+    }
 
 returns : tie.Need-returns Inv-loop μ-loop
-unfolding most-units
-returns c = let b = c .before .loop in
-    largest-is (use-accepted (c .before .before .args .a) (c .before .before .args .k)) 1000000000 (b .lo) (omega (arith, b .inv .1 .order, b .inv .1 .top)) (b .inv .1 .passes) (λ m h l. b .inv .1 .none m (omega (arith, b .inv .1 .order)))
+returns c = let d = c .before .before .before in
+    let l = c .before .loop in
+    most-is (d .args .a) (d .args .k) (l .lo) (l .hi) (d .pre .0) (d .pre .1) (rw (c .before .before .quote-of .ensures) at (l .inv)) (omega arith)
 
 pub most-of-spec : {M : Type 1} → statement M
 most-of-spec =
@@ -49,11 +47,12 @@ most-of-spec =
     (tie.spec
     Inv-loop
     μ-loop
+    (λ c κs. search needs)
     loop-holds
     (λ c. omega arith)
     (λ c. omega arith)
     (λ c. omega arith)
-    affords-requires
+    within-quote-requires
     (λ c. omega arith)
     loop-again
     (λ c. omega arith)

@@ -1,6 +1,6 @@
 -- `presence::log::day_at` meets its contract. Assumes nothing.
 use Rattle.presence.proofs.Numbers.{day-at-is}
-use borrow.Author.Needs.{needs}
+use native.Mathlib.Omega.{arith}
 use Rattle.presence.proofs.log.day_at.Statement.{statement}
 use Rattle.presence.proofs.log.day_at.Tie as tie
 
@@ -12,13 +12,13 @@ pub day-at-spec : {M : Type 1} → statement M
 day-at-spec =
     tie.close
     (tie.spec
-    (λ c. search needs)
-    (λ c. search needs)
-    (λ c. search needs)
-    (λ c. search needs)
-    (λ c κs. search needs)
-    (λ c. search needs)
-    (λ c κs. search needs)
-    (λ c. search needs)
-    (λ c κs. search needs)
+    (λ c. omega arith)
+    (λ c. omega arith)
+    (λ c. omega arith)
+    (λ c. omega arith)
+    (λ c κs. omega arith)
+    (λ c. omega arith)
+    (λ c κs. omega arith)
+    (λ c. omega arith)
+    (λ c κs. omega arith)
     returns)

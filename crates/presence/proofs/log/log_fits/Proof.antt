@@ -1,37 +1,83 @@
 -- `presence::log::log_fits` meets its contract. Assumes nothing.
+use Prim.Native.Nat.{_*_, _-_, _≤_, _<_}
+use mathlib.Core.Path.{_≡_, refl, sym, _∙_, ap}
 use Rattle.tariff.specs.declared.Units.{Units}
-use Rattle.tariff.specs.Tests.{all}
 use Rattle.tariff.specs.Units.{_⊕_, fits}
-use native.Mathlib.Omega.{arith}
-use Rattle.presence.proofs.Ceiling.{held-room, fits-days}
-use Rattle.presence.specs.Held.{held-day, held-over}
 use Rattle.presence.specs.Day.{day-units}
-use Rattle.presence.specs.Log.{days-of, units-over, log-within}
-use mathlib.Core.Path.{_≡_, _∙_, ap}
-use borrow.Author.Needs.{needs}
+use Rattle.presence.specs.Log.{days-of, units-over}
+use Rattle.presence.specs.Held.{UnitsFit, Bounded, bits-of, place-from, marks-kept, day-bits}
+use Rattle.presence.proofs.Bits.{or-both}
+use Rattle.presence.proofs.Within.{rest-refused, marks-refused, units-refused, within-is, units-fit, bits-bounded, over-room}
+use lib.Bits.{bitOr}
+use native.Mathlib.Nat.{le-refl}
+use native.Mathlib.Omega.{arith}
 use Rattle.presence.proofs.log.log_fits.Statement.{statement}
 use Rattle.presence.proofs.log.log_fits.Tie as tie
 
-hold-day-requires : tie.Need-hold-day-requires
-hold-day-requires c κs = rw (c .tally .ensures) (held-room _ _ (omega arith))
-
 returns : tie.Need-returns
-unfolding log-within all
-returns c = let d = c .before .before .before .before .before in
+returns c = let d = c .before .before in
     let a = d .args in
-    let h : c .before .before .before .hold-day .result ≡ held-day (a .today) ⊕ held-over (a .n) (days-of (a .log .now)) =
-    c .before .before .before .hold-day .ensures ∙ ap (λ (t : Units). held-day (a .today) ⊕ t) (c .before .before .before .before .tally .ensures) in
-    let e : c .units-fit .result ≡ fits (day-units (a .today) ⊕ units-over (a .n) (days-of (a .log .now))) (a .lifetime) =
-    c .units-fit .ensures ∙ ap (λ (t : Units). fits t (a .lifetime)) h ∙ fits-days (a .today) (a .n) (days-of (a .log .now)) (a .lifetime) (d .pre .1) in
-    simp (e, c .before .before .rest-blank .ensures, c .before .marks-fit .ensures)
+    sym (rest-refused (a .log .now) (a .today) (a .n) (a .lifetime) (d .pre .0) (λ z. omega (arith, c .before .bits-between .ensures, c .if1 .taken, z)))
+
+returns-2 : tie.Need-returns-2
+returns-2 c = let d = c .before .before .before .before in
+    let a = d .args in
+    sym (marks-refused (a .log .now) (a .today) (a .n) (a .lifetime) (d .pre .0) (omega (arith, c .before .marks-bits .ensures, c .if2 .taken)))
+
+-- the bits that the third test looks at
+units-bits : (c : tie.After-day-bits) → let a = c .before .before .before .before .before .before .args in
+    bitOr (c .before .bits-between2 .result) (c .day-bits .result) ≡ bitOr (bits-of (place-from 0 (a .log .now)) (13 * a .n - 0)) (day-bits (a .today))
+units-bits c = rw (c .before .bits-between2 .ensures, c .day-bits .ensures) refl
+
+returns-3 : tie.Need-returns-3
+returns-3 c = let d = c .before .before .before .before .before .before .before in
+    let a = d .args in
+    sym (units-refused (a .log .now) (a .today) (a .n) (a .lifetime) (d .pre .0) (d .pre .1) (omega (arith, units-bits (c .before), c .if3 .taken)))
+
+-- past the three tests all numbers of the log's days and of today are below 2^40
+units-low : (c : tie.Else3) → let a = c .before .before .before .before .before .before .before .args in
+    UnitsFit (a .n) (a .log .now) × Bounded (day-units (a .today))
+units-low c = let a = c .before .before .before .before .before .before .before .args in
+    let b = bits-of (place-from 0 (a .log .now)) (13 * a .n - 0) in
+    let h : bitOr b (day-bits (a .today)) < 1099511627776 = omega (arith, units-bits (c .before), c .if3 .left) in
+    let l = or-both 1099511627776 b (day-bits (a .today)) h in
+    (units-fit (a .n) (a .log .now) (l .0), bits-bounded (a .today) (l .1))
+
+tally-requires : tie.Need-tally-requires
+tally-requires c κs = (c .before .before .before .before .before .before .before .pre .0, units-low c .0)
+
+add-day-requires : tie.Need-add-day-requires
+add-day-requires c κs = let d = c .before .before .before .before .before .before .before .before in
+    let a = d .args in
+    let u = units-low (c .before) in
+    (rw (c .tally .ensures) (over-room (a .n) (a .n) (a .log .now) (d .pre .0) (le-refl (a .n)) (u .0)), u .1)
+
+returns-4 : tie.Need-returns-4
+returns-4 c = let m = c .before .before .before .before .before .before in
+    let d = m .before .before .before .before in
+    let a = d .args in
+    let xs = a .log .now in
+    let sum : c .before .add-day .result ≡ day-units (a .today) ⊕ units-over (a .n) (days-of xs) =
+    c .before .add-day .ensures ∙ ap (λ (t : Units). day-units (a .today) ⊕ t) (c .before .before .tally .ensures) in
+    let rest : bits-of (place-from (13 * a .n) xs) (1599 - 13 * a .n) ≡ 0 =
+    omega (arith, m .before .before .before .bits-between .ensures, m .before .before .if1 .left) in
+    let marks : bits-of (marks-kept xs) (a .n) ≤ 7 = omega (arith, m .before .marks-bits .ensures, m .if2 .left) in
+    c .units-fit .ensures ∙ ap (λ (t : Units). fits t (a .lifetime)) sum
+    ∙ sym (within-is xs (a .today) (a .n) (a .lifetime) (d .pre .0) rest marks)
 
 pub log-fits-spec : {M : Type 1} → statement M
 log-fits-spec =
     tie.close
     (tie.spec
-    (λ c κs. search needs)
-    hold-day-requires
-    (λ c κs. search needs)
-    (λ c κs. search needs)
-    (λ c κs. search needs)
-    returns)
+    (λ c. omega arith)
+    (λ c κs. omega arith)
+    returns
+    (λ c κs. c .before .before .pre .0)
+    returns-2
+    (λ c κs. omega arith)
+    (λ c κs. tt)
+    returns-3
+    tally-requires
+    add-day-requires
+    (λ c κs. tt)
+    returns-4)

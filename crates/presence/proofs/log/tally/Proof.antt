@@ -1,33 +1,37 @@
 -- `presence::log::tally` meets its contract. Assumes nothing.
-use Rattle.presence.proofs.Ceiling.{held-none, held-next, held-room}
-use Rattle.presence.specs.Held.{held-over}
-use Rattle.presence.specs.Log.{days-of}
 use Prim.Native.Nat.{_≤_, _-_}
 use mathlib.Core.Path.{_≡_, refl, sym, _∙_}
 use native.Mathlib.Omega.{arith}
+use Rattle.presence.specs.Log.{days-of, units-over}
+use Rattle.presence.specs.Held.{UnitsFit}
+use Rattle.presence.proofs.Logs.{over-none, over-next}
+use Rattle.presence.proofs.Within.{day-bounded, over-room}
 use Rattle.presence.proofs.log.tally.Statement.{statement}
 use Rattle.presence.proofs.log.tally.Tie as tie
 
 abbrev Inv-loop : tie.InvT-loop
-Inv-loop log n sum₀ i₀ sum i = (i ≤ n) × (n ≤ 123) × (sum ≡ held-over i (days-of log))
+Inv-loop log n sum₀ i₀ sum i = (i ≤ n) × (n ≤ 123) × UnitsFit n log × (sum ≡ units-over i (days-of log))
 
 abbrev μ-loop : tie.MeasureT-loop
 μ-loop log n sum₀ i₀ sum i = n - i
 
 loop-holds : tie.Need-loop-holds Inv-loop μ-loop
-loop-holds c = (omega arith, omega arith, sym (held-none 0 (days-of (c .args .log .now)) refl))
+loop-holds c = (omega arith, omega arith, c .pre .1, sym (over-none 0 (days-of (c .args .log .now)) refl))
 
-hold-day-requires : tie.Need-hold-day-requires Inv-loop μ-loop
-hold-day-requires c κs = rw (c .before .before .loop .inv .2) (held-room _ _ (omega arith))
+add-day-requires : tie.Need-add-day-requires Inv-loop μ-loop
+add-day-requires c κs = let b = c .before .before in
+    let a = b .before .args in
+    let f = b .loop .inv in
+    (rw (f .3) (over-room (b .loop .i) (a .n) (a .log .now) (f .1) (f .0) (f .2)), rw (c .day-at .ensures) (day-bounded (a .n) (b .loop .i) (a .log .now) (f .1) (omega arith) (f .2)))
 
 loop-again : tie.Need-loop-again Inv-loop μ-loop
 loop-again c = let b = c .before .before .before in
     let ds = days-of (b .before .args .log .now) in
-    (omega arith, omega arith, c .hold-day .ensures ∙ rw (b .loop .inv .2, c .before .day-at .ensures) (sym (held-next (b .loop .i) ds)))
+    (omega arith, omega arith, b .loop .inv .2, c .add-day .ensures ∙ rw (b .loop .inv .3, c .before .day-at .ensures) (sym (over-next (b .loop .i) ds)))
 
 returns : tie.Need-returns Inv-loop μ-loop
 returns c = let e : c .before .loop .i ≡ c .before .before .args .n = omega arith in
-    rw e at (c .before .loop .inv .2)
+    rw e at (c .before .loop .inv .3)
 
 pub tally-spec : {M : Type 1} → statement M
 tally-spec =
@@ -37,7 +41,7 @@ tally-spec =
     μ-loop
     loop-holds
     (λ c κs. omega arith)
-    hold-day-requires
+    add-day-requires
     (λ c. omega arith)
     (λ c. omega arith)
     loop-again

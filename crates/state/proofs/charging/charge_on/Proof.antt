@@ -1,9 +1,7 @@
 -- `state::charging::charge_on` meets its contract. Assumes nothing.
-use Rattle.tariff.specs.declared.Units.{Units}
 use Rattle.state.specs.Use.{charge-of}
 use Rattle.state.specs.Needs.{bill-of}
-use Rattle.state.proofs.Billing.{Grown, grown, counted-in}
-use mathlib.Core.Path.{ap}
+use Rattle.state.proofs.Billing.{Grown, grown, counted-in, zone-is}
 use native.Mathlib.Omega.{arith}
 use borrow.Author.Needs.{needs}
 use Rattle.state.proofs.charging.charge_on.Statement.{statement}
@@ -13,21 +11,21 @@ charges : (c : tie.Start) → Grown (c .args .a) (c .args .b)
 charges c = rw (c .pre .bill-is) (grown (c .args .a) (c .args .c) (c .pre .steady) (c .pre .ready))
 
 add-notice-at : tie.Need-add-notice-at
-add-notice-at c = omega (arith, ap (λ (x : Units). x .kb) (c .before .before .roaming-of .ensures), counted-in (c .before .before .before .before .args .a) (c .before .before .before .before .args .c) (c .before .before .before .before .pre .ready))
+add-notice-at c = let d = c .before .before .before in
+    omega (arith, zone-is (d .pre), counted-in (d .args .a) (d .args .c) (d .pre .ready))
 
 returns : tie.Need-returns
 unfolding charge-of bill-of
-returns c = simp (c .before .before .before .before .amount2 .ensures, c .before .before .before .before .before .amount .ensures, c .before .before .before .before .before .before .notice-at .ensures, c .before .before .before .before .before .before .before .before .before .roaming-of .ensures, c .before .before .before .before .before .before .before .before .before .before .before .pre .bill-is)
+returns c = simp (c .before .before .before .before .amount2 .ensures, c .before .before .before .before .before .amount .ensures, c .before .before .before .before .before .before .notice-at .ensures, c .before .before .before .before .before .before .before .before .before .before .pre .bill-is)
 
 pub charge-on-spec : {M : Type 1} → statement M
 charge-on-spec =
     tie.close
     (tie.spec
-    (λ c κs. search needs)
     add-notice-at
     (λ c κs. search needs)
     (λ c κs. search needs)
     (λ c κs. search needs)
-    (λ c. omega (arith, charges (c .before .before .before .before .before .before .before .before .before)))
-    (λ c. omega (arith, charges (c .before .before .before .before .before .before .before .before .before .before .before)))
+    (λ c. omega (arith, charges (c .before .before .before .before .before .before .before .before)))
+    (λ c. omega (arith, charges (c .before .before .before .before .before .before .before .before .before .before)))
     returns)

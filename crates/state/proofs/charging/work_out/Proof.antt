@@ -47,7 +47,8 @@ surcharges-from-requires c κs = rw (basis-eq (c .before)) (basis-fits _ _ (c .b
 
 returns : tie.Need-returns
 unfolding bill-of home-after extra-after
-returns c = simp (c .surcharges-from .ensures, c .before .home-of .ensures, basis-eq (c .before .before), fresh-eq (c .before .before .before .before .before), billed-eq (c .before .before .before .before .before .before))
+returns c = let d = c .before in
+    simp (c .counted-of .ensures, d .surcharges-from .ensures, d .before .home-of .ensures, basis-eq (d .before .before), fresh-eq (d .before .before .before .before .before), billed-eq (d .before .before .before .before .before .before), d .before .before .before .before .before .before .before .before .roaming-of .ensures, d .before .before .before .before .before .before .before .before .before .billable-of .ensures)
 
 pub work-out-spec : {M : Type 1} → statement M
 work-out-spec =
@@ -63,4 +64,5 @@ work-out-spec =
     plus-requires-2
     home-of-requires
     surcharges-from-requires
+    (λ c κs. search needs)
     returns)
