@@ -233,8 +233,7 @@ pub fn within(l: u64, n: u64, h: u64) -> bool
     (l <= n) & (n <= h)
 }
 
-// Refusal 5: would the use pass a limit, that of the lifetime units or that of the charged seconds? Asked before the
-// charged units are made in `use_of`: so the compiled code of a use copies an account once and not twice.
+// Refusal 5: would the use pass a limit, that of the lifetime units or that of the charged seconds?
 fn overfills(a: State, k: Kind, n: u64) -> bool
     requires { ⌜ (counters-sound a ≡ true) × (n ≤ 1000000000) ⌝ }
     ensures { λ r. ⌜ r ≡ overfills a k n ⌝ }
