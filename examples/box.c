@@ -1,6 +1,6 @@
 /* A small box with the roaming meter, in C99. It goes through the ferry example: a traveller with a prepaid plan pays
- * in, enters the zone, and uses data and an SMS. After each call it shows what the traveller reads: whether the call was
- * accepted, the points that it took, the credit, and how much zone data is left.
+ * in, enters the zone, and uses data and an SMS. After each call it shows what the traveller reads: whether the call
+ * was accepted, the points that it took, the credit, and how much zone data is left.
  *
  *     ./library
  *     cc -std=c99 -Iinclude examples/box.c lib/libmeter.a -o box

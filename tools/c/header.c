@@ -1,6 +1,6 @@
-/* Holds include/meter.h to the library: every name of a return, a count, a kind, a place, a form, and of where a number of
- * an account or of an answer stands. The expected figures are worked out by hand. It is one trip under the prepaid plan
- * of the ferry example, one under a bundle, and one for each service that ends Surcharged. */
+/* Holds include/meter.h to the library: every name of a return, a count, a kind, a place, a form, and of where a number
+ * of an account or of an answer stands. The expected figures are worked out by hand. It is one trip under the prepaid
+ * plan of the ferry example, one under each form of bundle, and one for each service that ends Surcharged. */
 #include <inttypes.h>
 #include <stdio.h>
 
@@ -146,8 +146,8 @@ static void rest_of_ferry_day(void)
     CHECK(account[METER_AT_LOGGED], 1);
 }
 
-/* A fee of 100,000 is not below a cap of 11,000 for 1 GB, so that this bundle is not open and has no limit. The other one
- * has one of 2 x 11000 x 1048576 / 11000 kB. */
+/* A fee of 100,000 is not below a cap of 11,000 for 1 GB, so that this bundle is not open and has no limit. The other
+ * one has one of 2 x 11000 x 1048576 / 11000 kB. */
 static void bundles(void)
 {
     CHECK(open_under(bundle_plan), METER_ACCEPTED);

@@ -1,6 +1,6 @@
 /* What the functions of the library cost, for tools/library_facts.sh.
- * measure stack: of each function the deepest stack in bytes, over trips under each form of plan and over files, read and
- * refused ones. A call is made on a painted stack, which is looked over after it.
+ * measure stack: of each function the deepest stack in bytes, over trips under each form of plan and over files, read
+ * and refused ones. A call is made on a painted stack, which is looked over after it.
  * measure FUNCTION COUNT: so many calls of a function, on an account with 123 logged days and Surcharged services.
  * measure names: the functions. */
 #define _XOPEN_SOURCE 700
