@@ -3,7 +3,8 @@
 # instructions.sh: as the table of docs/PERFORMANCE.md.
 # instructions.sh --check FILE: held against that table. A call that takes over 5 % more than the file says, a call that
 # the table lacks, or a table that cannot be read is a failure; one that takes over 5 % less is told.
-# A call is the difference of two counts of it, from a day under the first row of caps and from one under the last.
+# A call is the difference of two counts of it, from a day under the first row of caps and from one under the last. Of a
+# whole file, its statement or its run, one is counted, from the first.
 # The proved library has to be there; the program `bench` is built here.
 set -eu
 
@@ -33,15 +34,19 @@ trap 'exit 143' TERM
 say() { echo "instructions: $*" >&2; }
 . ../tools/figures.sh
 
+of_file() { # KIND
+    [ "$1" = statement ] || [ "$1" = run ]
+}
+
 # The instructions of so many calls of a kind, within all functions of the library.
 count() { # KIND COUNT START
     count_within "$functions" ./bench --one "$1" "$2" "$3"
 }
 
-# The instructions of one call of a kind, to the nearest whole one; of a statement, all of them.
+# The instructions of one call of a kind, to the nearest whole one.
 each() { # KIND START
-    if [ "$1" = statement ]; then
-        count statement 1 "$2"
+    if of_file "$1"; then
+        count_within "meter_$1" ./bench --one "$1" 1 "$2"
         return
     fi
     first=$(count "$1" "$few" "$2")
@@ -74,7 +79,7 @@ while read -r kind name <&3; do
     number=$((number + 1))
     early=$(each "$kind" 181)
     late=
-    [ "$kind" = statement ] || late=$(each "$kind" 1826)
+    of_file "$kind" || late=$(each "$kind" 1826)
     if [ -n "$document" ]; then
         say "$number of $all, $name: $(grouped "$early")${late:+ and $(grouped "$late")}"
         check_call "$name" "$early" "$late"
