@@ -162,8 +162,7 @@ static void bundles(void)
     CHECK(account[METER_AT_LIMIT], 2097153);
 }
 
-/* 123 days in the zone with one unit each of a kind warn its service, and the 15th day change after that makes it
- * Surcharged. */
+/* 123 days in the zone, each with one unit of a kind, warn its service; 15 day changes later it is Surcharged. */
 static void service_ends_surcharged(uint64_t kind, size_t service)
 {
     const uint64_t *states = account + METER_AT_SERVICES;
