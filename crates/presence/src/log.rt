@@ -21,8 +21,8 @@ pub fn log_empty() -> [u64; 1599]
 }
 
 // Four numbers of the log, from place j on: the units of a day at one place.
-fn units_at(log: &[u64; 1599], j: usize) -> Units
-    requires { ⌜ j + 4 ≤ 1599 ⌝ }
+fn units_at(log: &[u64], j: usize) -> Units
+    requires { ⌜ (j + 4 ≤ 1599) × (length (now log) ≡ 1599) ⌝ }
     ensures { λ r. ⌜ r ≡ each (getD (now (log .entry)) j 0) (getD (now (log .entry)) (j + 1) 0)
         (getD (now (log .entry)) (j + 2) 0) (getD (now (log .entry)) (j + 3) 0) ⌝ }
 {
@@ -39,8 +39,8 @@ fn units_at(log: &[u64; 1599], j: usize) -> Units
 }
 
 // Day i of the log; 0 is the newest.
-pub fn day_at(log: &[u64; 1599], i: usize) -> Day
-    requires { ⌜ i < 123 ⌝ }
+pub fn day_at(log: &[u64], i: usize) -> Day
+    requires { ⌜ (i < 123) × (length (now log) ≡ 1599) ⌝ }
     ensures { λ r. ⌜ r ≡ getD (days-of (now (log .entry))) i empty-day ⌝ }
 {
     let j = 13 * i;
@@ -59,7 +59,7 @@ pub fn day_at(log: &[u64; 1599], i: usize) -> Day
 }
 
 // Every day one place on; the oldest drops.
-fn shift_days(log: &mut [u64; 1599])
+fn shift_days(log: &mut [u64])
     requires { ⌜ length (now log) ≡ 1599 ⌝ }
     ensures { λ _. ⌜ (length (now (log .exit)) ≡ 1599) × (drop 13 (now (log .exit)) ≡ take 1586 (now (log .entry))) ⌝ }
 {
@@ -86,7 +86,7 @@ fn marks_of(d: Day) -> u64
 }
 
 // The newest day's numbers.
-fn write_newest(log: &mut [u64; 1599], d: Day)
+fn write_newest(log: &mut [u64], d: Day)
     requires { ⌜ length (now log) ≡ 1599 ⌝ }
     ensures { λ _. ⌜ now (log .exit) ≡ numbers-of d ++ drop 13 (now (log .entry)) ⌝ }
 {
@@ -109,7 +109,7 @@ fn write_newest(log: &mut [u64; 1599], d: Day)
 }
 
 // The log with one day more.
-pub fn push(log: &mut [u64; 1599], d: Day)
+pub fn push(log: &mut [u64], d: Day)
     requires { ⌜ length (now log) ≡ 1599 ⌝ }
     ensures { λ _. ⌜ now (log .exit) ≡ logged-with d (now (log .entry)) ⌝ }
 {
@@ -128,8 +128,8 @@ fn add_day(sum: Units, d: Day) -> Units
 }
 
 // The units of the first n days.
-fn tally(log: &[u64; 1599], n: usize) -> Units
-    requires { ⌜ (n ≤ 123) × UnitsFit n (now log) ⌝ }
+fn tally(log: &[u64], n: usize) -> Units
+    requires { ⌜ (n ≤ 123) × UnitsFit n (now log) × (length (now log) ≡ 1599) ⌝ }
     ensures { λ r. ⌜ r ≡ units-over n (days-of (now (log .entry))) ⌝ }
 {
     let mut sum = Units {
@@ -147,8 +147,8 @@ fn tally(log: &[u64; 1599], n: usize) -> Units
 }
 
 // The bits of the numbers from one place to before another, joined: below a power of 2 exactly if each number is.
-fn bits_between(log: &[u64; 1599], from: usize, to: usize) -> u64
-    requires { ⌜ (from ≤ to) × (to ≤ 1599) ⌝ }
+fn bits_between(log: &[u64], from: usize, to: usize) -> u64
+    requires { ⌜ (from ≤ to) × (to ≤ 1599) × (length (now log) ≡ 1599) ⌝ }
     ensures { λ r. ⌜ r ≡ bits-of (place-from from (now (log .entry))) (to - from) ⌝ }
 {
     let mut bits: u64 = 0;
@@ -161,8 +161,8 @@ fn bits_between(log: &[u64; 1599], from: usize, to: usize) -> u64
 }
 
 // The same of the marks of the first n days.
-fn marks_bits(log: &[u64; 1599], n: usize) -> u64
-    requires { ⌜ n ≤ 123 ⌝ }
+fn marks_bits(log: &[u64], n: usize) -> u64
+    requires { ⌜ (n ≤ 123) × (length (now log) ≡ 1599) ⌝ }
     ensures { λ r. ⌜ r ≡ bits-of (marks-kept (now (log .entry))) n ⌝ }
 {
     let mut bits: u64 = 0;
@@ -189,8 +189,8 @@ fn day_bits(d: Day) -> u64
 
 // Are the units of today and of the n logged days within the lifetime units, the other places blank, and all marks
 // proper? A number of 2^40 or more is above any lifetime units; without one the units add up.
-pub fn log_fits(log: &[u64; 1599], today: Day, n: u64, lifetime: Units) -> bool
-    requires { ⌜ (n ≤ 123) × AtMost lifetime lifetime-most ⌝ }
+pub fn log_fits(log: &[u64], today: Day, n: u64, lifetime: Units) -> bool
+    requires { ⌜ (n ≤ 123) × AtMost lifetime lifetime-most × (length (now log) ≡ 1599) ⌝ }
     ensures { λ r. ⌜ r ≡ log-within (now (log .entry)) today n lifetime ⌝ }
 {
     let k = n as usize;
