@@ -1,6 +1,4 @@
 // An account as 1,649 numbers: docs/LIBRARY.md has the layout.
-pub mod claims;
-
 use presence::Day;
 use presence::Location;
 use presence::ServiceState;
@@ -25,7 +23,7 @@ ghost use Rattle.state.specs.Sound.{allowance-fits, warning-fits};
 ghost use Rattle.numbers.specs.Numbers.{place-number, place-from, allowance-number, allowance-from};
 ghost use Rattle.numbers.specs.Numbers.{service-number, service-from, units-from, terms-from, plan-numbers};
 ghost use Rattle.numbers.specs.Numbers.{meters-from, quota-from, services-from, state-numbers, state-from};
-ghost use Rattle.numbers.specs.Numbers.{log-part, rest-part, account-from, tags-known, is-account, Writable};
+ghost use Rattle.numbers.specs.Numbers.{log-part, rest-part, tags-known, is-account, Writable};
 
 fn number_of_place(p: Place) -> u64
     ensures { λ r. ⌜ r ≡ place-number (Location.At p) ⌝ }
@@ -306,7 +304,7 @@ fn state_of(ys: &[u64]) -> State
     let money = money_of(ys);
     let meters = meters_of(ys);
     let quota = quota_of(ys);
-    let today = presence::log::day_from(ys, 33);
+    let today = presence::log::day_in(ys, 33);
     let logged = ys[46];
     let services = services_of(ys);
     State {
@@ -346,7 +344,7 @@ pub fn held(account: &[u64]) -> bool
 // All but the log of the account that the numbers stand for.
 pub fn state_held(account: &[u64]) -> State
     requires { ⌜ length (now account) ≡ 1649 ⌝ }
-    ensures { λ r. ⌜ r ≡ account-from (now (account .entry)) .state ⌝ }
+    ensures { λ r. ⌜ r ≡ state-from (rest-part (now (account .entry))) ⌝ }
 {
     state_of(&account[1599..])
 }
