@@ -25,6 +25,7 @@ use Rattle.state.specs.declared.Money.{Money}
 use Rattle.state.specs.declared.Meters.{Meters}
 use Rattle.state.specs.declared.Quota.{Quota}
 use Rattle.state.specs.Sound.{allowance-fits, warning-fits}
+use Rattle.account.specs.declared.Account.{Account}
 
 -- a place, or none: 0 none, 1 home, 2 zone, 3 elsewhere
 abbrev pub place-number : Location → ℕ
@@ -156,6 +157,14 @@ log-part xs = take 1599 xs
 
 unfoldable pub rest-part : List ℕ → List ℕ
 rest-part xs = drop 1599 xs
+
+-- the numbers of an account
+unfoldable pub account-numbers : Account → List ℕ
+account-numbers a = a .log ++ state-numbers (a .state)
+
+-- the account of numbers
+unfoldable pub account-from : List ℕ → Account
+account-from xs = record { state = state-from (rest-part xs); log = log-part xs }
 
 -- form, place and today's marks are numbers that stand for one; every number stands for some L and some state of a
 -- service

@@ -1,5 +1,6 @@
 // An account as 1,649 numbers: docs/LIBRARY.md has the layout.
-use presence::Day;
+pub mod claims;
+
 use presence::Location;
 use presence::ServiceState;
 use presence::Services;
@@ -10,20 +11,18 @@ use state::State;
 use tariff::Allowance;
 use tariff::Form;
 use tariff::Place;
-use tariff::Plan;
-use tariff::Units;
+use tariff::Terms;
 ghost use mathlib.Core.Path.{_≡_};
 ghost use mathlib.Core.Bool.{true, cond};
 ghost use mathlib.Core.List.{_++_};
 ghost use Prim.Native.Nat.{_+_, _*_, _%_, _/_, _≤_, _<_};
 ghost use lib.ListN.{length, take, drop};
-ghost use Rattle.tariff.specs.Plan.{form-of, form-word, plan-with};
-ghost use Rattle.presence.specs.Log.{marks-number, day-from};
+ghost use Rattle.tariff.specs.Plan.{form-word};
 ghost use Rattle.state.specs.Sound.{allowance-fits, warning-fits};
 ghost use Rattle.numbers.specs.Numbers.{place-number, place-from, allowance-number, allowance-from};
-ghost use Rattle.numbers.specs.Numbers.{service-number, service-from, units-from, terms-from, plan-numbers};
+ghost use Rattle.numbers.specs.Numbers.{service-number, service-from, terms-from, money-from};
 ghost use Rattle.numbers.specs.Numbers.{meters-from, quota-from, services-from, state-numbers, state-from};
-ghost use Rattle.numbers.specs.Numbers.{log-part, rest-part, tags-known, is-account, Writable};
+ghost use Rattle.numbers.specs.Numbers.{log-part, rest-part, account-from, tags-known, is-account, Writable};
 
 fn number_of_place(p: Place) -> u64
     ensures { λ r. ⌜ r ≡ place-number (Location.At p) ⌝ }
@@ -111,18 +110,6 @@ pub fn number_of_form(f: Form) -> u64
     }
 }
 
-fn form_of(n: u64) -> Form
-    ensures { λ r. ⌜ r ≡ form-of n ⌝ }
-{
-    if n == 0 {
-        return Form::Prepaid;
-    }
-    if n == 1 {
-        return Form::Bundle;
-    }
-    Form::Unlimited
-}
-
 // The numbers of all of an account but its log, group by group.
 fn numbers_of(a: State) -> [u64; 50]
     requires { ⌜ Writable a ⌝ }
@@ -208,19 +195,19 @@ fn numbers_of(a: State) -> [u64; 50]
     ]
 }
 
-// The plan of seven numbers, the first of a list.
-pub fn plan_of(ys: &[u64]) -> Plan
+// The terms of seven numbers, the first of a list.
+pub fn terms_of(ys: &[u64]) -> Terms
     requires { ⌜ 7 ≤ length (now ys) ⌝ }
-    ensures { λ r. ⌜ r ≡ plan-with (terms-from (now (ys .entry))) ⌝ }
+    ensures { λ r. ⌜ r ≡ terms-from (now (ys .entry)) ⌝ }
 {
-    let form = form_of(ys[0]);
+    let form = ys[0];
     let start = ys[1];
     let pergb = ys[2];
     let perminute = ys[3];
     let persms = ys[4];
     let fee = ys[5];
     let volume = ys[6];
-    Plan {
+    Terms {
         form: form,
         start: start,
         pergb: pergb,
@@ -298,7 +285,7 @@ fn state_of(ys: &[u64]) -> State
     requires { ⌜ length (now ys) ≡ 50 ⌝ }
     ensures { λ r. ⌜ r ≡ state-from (now (ys .entry)) ⌝ }
 {
-    let plan = plan_of(ys);
+    let plan = tariff::plans::plan_with(terms_of(ys));
     let day = ys[7];
     let place = location_of(ys[8]);
     let money = money_of(ys);
@@ -344,7 +331,7 @@ pub fn held(account: &[u64]) -> bool
 // All but the log of the account that the numbers stand for.
 pub fn state_held(account: &[u64]) -> State
     requires { ⌜ length (now account) ≡ 1649 ⌝ }
-    ensures { λ r. ⌜ r ≡ state-from (rest-part (now (account .entry))) ⌝ }
+    ensures { λ r. ⌜ r ≡ account-from (now (account .entry)) .state ⌝ }
 {
     state_of(&account[1599..])
 }

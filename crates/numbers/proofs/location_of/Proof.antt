@@ -1,23 +1,19 @@
+-- `numbers::location_of` meets its contract. Assumes nothing.
+use borrow.Author.Tests.{eq-eqb, ne-eqb}
 use Rattle.numbers.proofs.location_of.Statement.{statement}
 use Rattle.numbers.proofs.location_of.Tie as tie
-use Rattle.numbers.proofs.location_of.Reads as reads
-use Rattle.numbers.proofs.location_of.Lts as lts
 
--- src/lib.rt:51:9
 returns : tie.Need-returns
-returns c = ?
+returns c = simp (eq-eqb _ _ (c .if1 .taken))
 
--- src/lib.rt:54:9
 returns-2 : tie.Need-returns-2
-returns-2 c = ?
+returns-2 c = simp (ne-eqb _ _ (c .before .if1 .left), eq-eqb _ _ (c .if2 .taken))
 
--- src/lib.rt:57:9
 returns-3 : tie.Need-returns-3
-returns-3 c = ?
+returns-3 c = simp (ne-eqb _ _ (c .before .before .if1 .left), ne-eqb _ _ (c .before .if2 .left), eq-eqb _ _ (c .if3 .taken))
 
--- src/lib.rt:47:1
 returns-4 : tie.Need-returns-4
-returns-4 c = ?
+returns-4 c = simp (ne-eqb _ _ (c .before .before .if1 .left), ne-eqb _ _ (c .before .if2 .left), ne-eqb _ _ (c .if3 .left))
 
 pub location-of-spec : {M : Type 1} → statement M
 location-of-spec = tie.close (tie.spec returns returns-2 returns-3 returns-4)

@@ -1,37 +1,17 @@
+-- `numbers::number_of_service` meets its contract. Assumes nothing.
+use borrow.Author.Tests.{leb-true}
+use native.Mathlib.Omega.{arith}
 use borrow.Author.Needs.{needs}
 use Rattle.numbers.proofs.number_of_service.Statement.{statement}
 use Rattle.numbers.proofs.number_of_service.Tie as tie
-use Rattle.numbers.proofs.number_of_service.Reads as reads
-use Rattle.numbers.proofs.number_of_service.Lts as lts
 
--- src/lib.rt:86:32
-enum-told : tie.Need-enum-told
-enum-told c = search needs
-
--- src/lib.rt:87:30
-enum-known-s : tie.Need-enum-known-s
-enum-known-s c = search needs
-
--- src/lib.rt:87:36
 add-result : tie.Need-add-result
-add-result c = ?
+add-result c = omega (arith, leb-true (c .before .s .given .0 .0) 14 (rw (c .before .s .given .1) at (c .before .before .before .pre)))
 
--- src/lib.rt:88:37
-enum-told-2 : tie.Need-enum-told-2
-enum-told-2 c = search needs
-
--- src/lib.rt:81:1
-returns : tie.Need-returns
-returns c = search needs
-
--- src/lib.rt:81:1
 returns-2 : tie.Need-returns-2
-returns-2 c = ?
-
--- src/lib.rt:81:1
-returns-3 : tie.Need-returns-3
-returns-3 c = search needs
+returns-2 c = simp (c .before .s .given .1)
 
 pub number-of-service-spec : {M : Type 1} → statement M
 number-of-service-spec =
-    tie.close (tie.spec enum-told enum-known-s add-result enum-told-2 returns returns-2 returns-3)
+    tie.close
+    (tie.spec (λ c. search needs) (λ c. search needs) add-result (λ c. search needs) (λ c. search needs) returns-2 (λ c. search needs))
