@@ -186,8 +186,8 @@ fn run_calls<'a, 'l>(section: &'a [u8], n: usize, from: Progress, log: &'l mut [
     t
 }
 
-// All calls of a calls section, with the log lent. `known` says that the account is known to be sound, and then asks that
-// it is: no call looks at it again. Where it is false each call looks, and nothing is asked of the account.
+// All calls of a calls section, with the log lent. Where `known` is true no call looks whether the account is sound, so
+// this asks that it is; every call leaves it so. Where it is false each call looks, and the account may be any.
 pub fn run_section(section: &[u8], state: State, log: &mut [u64], known: bool) -> Progress
     requires { ⌜ (length (now log) ≡ 1599) × SaidSound known (account-of state (now log)) ⌝ }
     ensures { λ r. ⌜ replayed-of r (now (log .exit))
