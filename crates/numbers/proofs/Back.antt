@@ -185,57 +185,57 @@ tags-of a = and-both _ _ (and-both _ _ (le-leb _ _ (form-small (a .plan .form)))
 state-spelled : (ys : List ℕ) → Known ys → state-numbers (state-from ys) ≡ spelled 50 0 ys
 unfolding state-numbers state-from spelled day-from numbers-of
 state-spelled ys k = λ j.
-        form-forth (getD ys 0 0) (k .form) j
-        ∷ getD ys 1 0
-        ∷ getD ys 2 0
-        ∷ getD ys 3 0
-        ∷ getD ys 4 0
-        ∷ getD ys 5 0
-        ∷ getD ys 6 0
-        ∷ getD ys 7 0
-        ∷ place-forth (getD ys 8 0) (k .place) j
-        ∷ getD ys 9 0
-        ∷ getD ys 10 0
-        ∷ getD ys 11 0
-        ∷ getD ys 12 0
-        ∷ getD ys 13 0
-        ∷ getD ys 14 0
-        ∷ getD ys 15 0
-        ∷ getD ys 16 0
-        ∷ getD ys 17 0
-        ∷ getD ys 18 0
-        ∷ getD ys 19 0
-        ∷ getD ys 20 0
-        ∷ getD ys 21 0
-        ∷ getD ys 22 0
-        ∷ getD ys 23 0
-        ∷ getD ys 24 0
-        ∷ getD ys 25 0
-        ∷ getD ys 26 0
-        ∷ getD ys 27 0
-        ∷ getD ys 28 0
-        ∷ getD ys 29 0
-        ∷ getD ys 30 0
-        ∷ getD ys 31 0
-        ∷ allowance-forth (getD ys 32 0) j
-        ∷ marks-forth ys (k .marks) j
-        ∷ getD-drop 33 ys 1 0 j
-        ∷ getD-drop 33 ys 2 0 j
-        ∷ getD-drop 33 ys 3 0 j
-        ∷ getD-drop 33 ys 4 0 j
-        ∷ getD-drop 33 ys 5 0 j
-        ∷ getD-drop 33 ys 6 0 j
-        ∷ getD-drop 33 ys 7 0 j
-        ∷ getD-drop 33 ys 8 0 j
-        ∷ getD-drop 33 ys 9 0 j
-        ∷ getD-drop 33 ys 10 0 j
-        ∷ getD-drop 33 ys 11 0 j
-        ∷ getD-drop 33 ys 12 0 j
-        ∷ getD ys 46 0
-        ∷ service-forth (getD ys 47 0) j
-        ∷ service-forth (getD ys 48 0) j
-        ∷ service-forth (getD ys 49 0) j
-        ∷ []
+    form-forth (getD ys 0 0) (k .form) j
+    ∷ getD ys 1 0
+    ∷ getD ys 2 0
+    ∷ getD ys 3 0
+    ∷ getD ys 4 0
+    ∷ getD ys 5 0
+    ∷ getD ys 6 0
+    ∷ getD ys 7 0
+    ∷ place-forth (getD ys 8 0) (k .place) j
+    ∷ getD ys 9 0
+    ∷ getD ys 10 0
+    ∷ getD ys 11 0
+    ∷ getD ys 12 0
+    ∷ getD ys 13 0
+    ∷ getD ys 14 0
+    ∷ getD ys 15 0
+    ∷ getD ys 16 0
+    ∷ getD ys 17 0
+    ∷ getD ys 18 0
+    ∷ getD ys 19 0
+    ∷ getD ys 20 0
+    ∷ getD ys 21 0
+    ∷ getD ys 22 0
+    ∷ getD ys 23 0
+    ∷ getD ys 24 0
+    ∷ getD ys 25 0
+    ∷ getD ys 26 0
+    ∷ getD ys 27 0
+    ∷ getD ys 28 0
+    ∷ getD ys 29 0
+    ∷ getD ys 30 0
+    ∷ getD ys 31 0
+    ∷ allowance-forth (getD ys 32 0) j
+    ∷ marks-forth ys (k .marks) j
+    ∷ getD-drop 33 ys 1 0 j
+    ∷ getD-drop 33 ys 2 0 j
+    ∷ getD-drop 33 ys 3 0 j
+    ∷ getD-drop 33 ys 4 0 j
+    ∷ getD-drop 33 ys 5 0 j
+    ∷ getD-drop 33 ys 6 0 j
+    ∷ getD-drop 33 ys 7 0 j
+    ∷ getD-drop 33 ys 8 0 j
+    ∷ getD-drop 33 ys 9 0 j
+    ∷ getD-drop 33 ys 10 0 j
+    ∷ getD-drop 33 ys 11 0 j
+    ∷ getD-drop 33 ys 12 0 j
+    ∷ getD ys 46 0
+    ∷ service-forth (getD ys 47 0) j
+    ∷ service-forth (getD ys 48 0) j
+    ∷ service-forth (getD ys 49 0) j
+    ∷ []
 
 state-forth : (ys : List ℕ) → length ys ≡ 50 → Known ys → state-numbers (state-from ys) ≡ ys
 state-forth ys e k = state-spelled ys k ∙ spelled-part 50 0 ys (omega arith) ∙ take-all 50 ys (omega arith)
