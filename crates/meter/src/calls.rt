@@ -1,13 +1,13 @@
 // Calls on an account in the caller's memory.
+use super::answer_code;
+use super::one_if;
+use super::put_first;
+use super::put_number;
 use account::Call;
 use state::Answer;
 use state::Charge;
 use state::State;
 use state::StateApplied;
-use super::answer_code;
-use super::one_if;
-use super::put_first;
-use super::put_number;
 use tariff::Kind;
 use tariff::Place;
 ghost use mathlib.Core.Path.{_≡_};

@@ -1,11 +1,11 @@
 // Trip files: the statement of one, reading, finding, writing, and its calls on an account in the caller's memory.
-use reader::Step;
-use report::Figures;
-use report::Report;
 use super::calls;
 use super::put_first;
 use super::put_number;
 use super::verdict_code;
+use reader::Step;
+use report::Figures;
+use report::Report;
 use tariff::Plan;
 use tariff::PlanAnswer;
 use tariff::Verdict;
@@ -37,7 +37,17 @@ fn put_figures(out: &mut [u64], f: Figures)
     let l = f.limit;
     let limit = numbers::number_of_allowance(l);
     let refused = f.refused as u64;
-    let ns = [f.day, f.paid, f.credit, f.home, f.extra, limit, f.roamed, f.past, refused];
+    let ns = [
+        f.day,
+        f.paid,
+        f.credit,
+        f.home,
+        f.extra,
+        limit,
+        f.roamed,
+        f.past,
+        refused,
+    ];
     put_first(out, &ns);
 }
 
@@ -69,7 +79,16 @@ fn put_trip(out: &mut [u64], p: Plan, calls: usize)
     let f = p.form;
     let form = numbers::number_of_form(f);
     let n = calls as u64;
-    let ns = [form, p.start, p.pergb, p.perminute, p.persms, p.fee, p.volume, n];
+    let ns = [
+        form,
+        p.start,
+        p.pergb,
+        p.perminute,
+        p.persms,
+        p.fee,
+        p.volume,
+        n,
+    ];
     put_first(out, &ns);
 }
 

@@ -1,41 +1,46 @@
+-- `meter::calls::afford_on` meets its contract. Assumes nothing.
+use Rattle.account.specs.declared.Call.the-variants.{Afford}
+use Rattle.account.specs.Answers.{applied}
+use Rattle.meter.proofs.Held.{prefix-length, account-again, no-account, answered}
+use mathlib.Core.Path.{_≡_, sym, _∙_, ap}
+use mathlib.Core.Bool.{true}
+use lib.ListN.{length, take}
+use borrow.Author.Tests.{not-true, not-false}
+use Rattle.account.specs.declared.Account.{Account}
+use Rattle.numbers.specs.Numbers.{account-from, is-account}
+use Rattle.numbers.proofs.Back.{account-length}
 use borrow.Author.Needs.{needs}
 use Rattle.meter.proofs.calls.afford_on.Statement.{statement}
 use Rattle.meter.proofs.calls.afford_on.Tie as tie
-use Rattle.meter.proofs.calls.afford_on.Reads as reads
-use Rattle.meter.proofs.calls.afford_on.Lts as lts
-use Rattle.account.proofs.afford_with.Reads as afford-with-reads
-use Rattle.numbers.proofs.held.Reads as held-reads
-use Rattle.numbers.proofs.state_held.Reads as state-held-reads
 
--- src/calls.rt:164:9
-held-requires : tie.Need-held-requires
-held-requires c κs = search needs
+here : (c : tie.Else1) → is-account (c .before .before .before .args .account .now) ≡ true
+here c = sym (c .before .held .ensures) ∙ not-false (c .before .held .result) (c .if1 .left)
 
--- src/calls.rt:165:9
+sized : (c : tie.Else1) → length (take 1599 (c .before .before .before .args .account .now)) ≡ 1599
+sized c = let xs = c .before .before .before .args .account .now in prefix-length xs (account-length xs (here c))
+
 returns : tie.Need-returns
-returns c = ?
+returns c = let a = c .before .before .before .args in no-account (a .account .now) (Afford (a .k)) (sym (c .before .held .ensures) ∙ not-true (c .before .held .result) (c .if1 .taken)) .0
 
--- src/calls.rt:167:9
 state-held-requires : tie.Need-state-held-requires
-state-held-requires c κs = ?
+state-held-requires c κs = account-length (c .before .before .before .args .account .now) (here c)
 
--- src/calls.rt:168:33
 slice-aggregate-afford-with : tie.Need-slice-aggregate-afford-with
-slice-aggregate-afford-with c = ?
+slice-aggregate-afford-with c = sym (sized (c .before .before))
 
--- src/calls.rt:168:5
 afford-with-requires : tie.Need-afford-with-requires
-afford-with-requires c κs = ?
+afford-with-requires c κs = sized (c .before .before)
 
--- src/calls.rt:161:1
 returns-2 : tie.Need-returns-2
-returns-2 c = ?
+returns-2 c = let a = c .before .before .before .before .before .before .args in
+    let same = account-again (a .account .now) (c .before .before .state-held .result) (c .before .before .state-held .ensures) in
+    answered (a .account .now) (Afford (a .k)) (c .afford-with .result) (here (c .before .before .before)) (c .afford-with .ensures ∙ ap (λ (x : Account). applied x (Afford (a .k)) .answer) same)
 
 pub afford-on-spec : {M : Type 1} → statement M
 afford-on-spec =
     tie.close
     (tie.spec
-    held-requires
+    (λ c κs. search needs)
     returns
     state-held-requires
     slice-aggregate-afford-with

@@ -1,43 +1,32 @@
+-- `meter::calls::meter_register` meets its contract. Assumes nothing.
+use mathlib.Core.Path.{refl, _∙_, ap}
+use Rattle.tariff.specs.declared.Place.{Place}
+use Rattle.account.specs.declared.Call.{Call}
+use Rattle.account.specs.declared.Call.the-variants.{Register}
+use Rattle.meter.specs.Answers.{answer-code}
+use Rattle.meter.specs.Calls.{call-answer, call-numbers}
+use borrow.Author.Tests.{lt-leb, le-leb}
 use borrow.Author.Needs.{needs}
 use Rattle.meter.proofs.calls.meter_register.Statement.{statement}
 use Rattle.meter.proofs.calls.meter_register.Tie as tie
-use Rattle.meter.proofs.calls.meter_register.Reads as reads
-use Rattle.meter.proofs.calls.meter_register.Lts as lts
-use Rattle.meter.proofs.answer_code.Reads as answer-code-reads
-use Rattle.meter.proofs.calls.call_on.Reads as call-on-reads
-use Rattle.meter.proofs.calls.place_of.Reads as place-of-reads
 
--- src/calls.rt:95:9
 returns : tie.Need-returns
-returns c = ?
+returns c = let h = lt-leb (c .before .before .args .place) 2 (c .if1 .taken) in (rw h refl, rw h refl)
 
--- src/calls.rt:97:49
-place-of-requires : tie.Need-place-of-requires
-place-of-requires c κs = search needs
-
--- src/calls.rt:97:17
-call-on-requires : tie.Need-call-on-requires
-call-on-requires c κs = search needs
-
--- src/calls.rt:97:5
-answer-code-requires : tie.Need-answer-code-requires
-answer-code-requires c κs = search needs
-
--- src/calls.rt:87:1
-same-length : tie.Need-same-length
-same-length c = search needs
-
--- src/calls.rt:87:1
 returns-2 : tie.Need-returns-2
-returns-2 c = ?
+returns-2 c = let h = le-leb (c .before .before .before .before .before .before .before .before .args .place) 2 (c .before .before .before .before .before .before .if1 .left) in
+    let xs = c .before .before .before .before .before .before .before .before .args .account .now in
+    let k = c .before .before .before .call-on .ensures in
+    let e = c .before .before .before .before .place-of .ensures in
+    (rw h (c .answer-code .ensures ∙ ap answer-code (k .0 ∙ ap (λ (p : Place). call-answer xs (Register p)) e)), rw h (k .1 ∙ ap (λ (p : Place). call-numbers xs (Register p)) e))
 
 pub meter-register-spec : {M : Type 1} → statement M
 meter-register-spec =
     tie.close
     (tie.spec
     returns
-    place-of-requires
-    call-on-requires
-    answer-code-requires
-    same-length
+    (λ c κs. search needs)
+    (λ c κs. search needs)
+    (λ c κs. search needs)
+    (λ c. search needs)
     returns-2)

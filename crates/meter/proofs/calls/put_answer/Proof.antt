@@ -1,70 +1,36 @@
+-- `meter::calls::put_answer` meets its contract. Assumes nothing.
+use Prim.Native.Nat.{_≤_}
+use mathlib.Core.Path.{ap, sym, _∙_}
+use lib.ListN.{length}
 use borrow.Author.Needs.{needs}
 use Rattle.meter.proofs.calls.put_answer.Statement.{statement}
 use Rattle.meter.proofs.calls.put_answer.Tie as tie
-use Rattle.meter.proofs.calls.put_answer.Reads as reads
-use Rattle.meter.proofs.calls.put_answer.Lts as lts
-use Rattle.meter.proofs.calls.put_charge.Reads as put-charge-reads
-use Rattle.meter.proofs.put_number.Reads as put-number-reads
 
-enum-told : tie.Need-enum-told
-enum-told c = search needs
-
--- src/calls.rt:135:25
-enum-known-x : tie.Need-enum-known-x
-enum-known-x c = search needs
-
--- src/calls.rt:135:31
 put-charge-requires : tie.Need-put-charge-requires
-put-charge-requires c κs = ?
+put-charge-requires c κs = rw (c .before .before .x .given .1) at (c .before .before .before .before .before .pre)
 
--- src/calls.rt:136:22
-enum-known-x-2 : tie.Need-enum-known-x-2
-enum-known-x-2 c = search needs
-
--- src/calls.rt:136:28
 put-number-requires : tie.Need-put-number-requires
-put-number-requires c κs = ?
+put-number-requires c κs = rw (c .before .before .x2 .given .1) at (c .before .before .before .before .before .pre)
 
-enum-told-2 : tie.Need-enum-told-2
-enum-told-2 c = search needs
-
--- src/calls.rt:129:1
-returns : tie.Need-returns
-returns c = search needs
-
--- src/calls.rt:129:1
-same-length : tie.Need-same-length
-same-length c = search needs
-
--- src/calls.rt:129:1
 returns-2 : tie.Need-returns-2
-returns-2 c = ?
+returns-2 c = simp (c .before .before .put-charge .ensures, c .before .before .before .before .before .x .given .1)
 
--- src/calls.rt:129:1
-same-length-2 : tie.Need-same-length-2
-same-length-2 c = search needs
-
--- src/calls.rt:129:1
 returns-3 : tie.Need-returns-3
-returns-3 c = ?
-
--- src/calls.rt:129:1
-returns-4 : tie.Need-returns-4
-returns-4 c = search needs
+returns-3 c = simp (c .before .before .put-number .ensures, c .before .before .before .before .before .x2 .given .1)
 
 pub put-answer-spec : {M : Type 1} → statement M
 put-answer-spec =
     tie.close
     (tie.spec
-    enum-told
-    enum-known-x
+    (λ c. search needs)
+    (λ c. search needs)
     put-charge-requires
-    enum-known-x-2
+    (λ c. search needs)
     put-number-requires
-    enum-told-2
-    returns
-    same-length
+    (λ c. search needs)
+    (λ c. search needs)
+    (λ c. search needs)
     returns-2
-    same-length-2
+    (λ c. search needs)
     returns-3
-    returns-4)
+    (λ c. search needs))

@@ -1,42 +1,29 @@
+-- `meter::caps::meter_caps` meets its contract. Assumes nothing.
+use mathlib.Core.Path.{refl, _∙_, ap}
+use borrow.Author.Tests.{lt-leb, le-leb}
+use lib.ListN.{length}
+use Rattle.tariff.specs.declared.Found.{Found}
+use Rattle.meter.specs.Answers.{laid}
+use Rattle.meter.specs.Files.{caps-numbers}
 use borrow.Author.Needs.{needs}
 use Rattle.meter.proofs.caps.meter_caps.Statement.{statement}
 use Rattle.meter.proofs.caps.meter_caps.Tie as tie
-use Rattle.meter.proofs.caps.meter_caps.Reads as reads
-use Rattle.meter.proofs.caps.meter_caps.Lts as lts
-use Rattle.meter.proofs.put_first.Reads as put-first-reads
-use Rattle.tariff.proofs.caps.find_caps.Reads as find-caps-reads
 
--- src/caps.rt:20:9
 returns : tie.Need-returns
-returns c = ?
+returns c = let h = lt-leb 5 (length (c .before .before .args .answer .now)) (c .if1 .taken) in (rw h refl, rw h refl)
 
--- src/caps.rt:22:9
-find-caps-requires : tie.Need-find-caps-requires
-find-caps-requires c κs = search needs
-
--- src/caps.rt:25:23
-slice-aggregate-put-first : tie.Need-slice-aggregate-put-first
-slice-aggregate-put-first c = search needs
-
--- src/caps.rt:25:5
-put-first-requires : tie.Need-put-first-requires
-put-first-requires c κs = search needs
-
--- src/caps.rt:13:1
-same-length : tie.Need-same-length
-same-length c = search needs
-
--- src/caps.rt:13:1
 returns-2 : tie.Need-returns-2
-returns-2 c = ?
+returns-2 c = let a = c .before .before .before .before .before .before .before .before .before .args in
+    let h = le-leb 5 (length (a .answer .now)) (c .before .before .before .before .before .before .before .if1 .left) in
+    (rw h refl, rw h (c .before .before .put-first .ensures ∙ ap (λ (x : Found). laid (caps-numbers x) (a .answer .now)) (c .before .before .before .before .before .before .find-caps .ensures)))
 
 pub meter-caps-spec : {M : Type 1} → statement M
 meter-caps-spec =
     tie.close
     (tie.spec
     returns
-    find-caps-requires
-    slice-aggregate-put-first
-    put-first-requires
-    same-length
+    (λ c κs. search needs)
+    (λ c. search needs)
+    (λ c κs. search needs)
+    (λ c. search needs)
     returns-2)

@@ -1,73 +1,42 @@
+-- `meter::files::meter_call` meets its contract. Assumes nothing.
+use Rattle.meter.proofs.Ran.{call-laid}
+use mathlib.Core.Path.{refl, sym, _∙_, ap}
+use borrow.Author.Tests.{lt-leb, le-leb}
+use lib.ListN.{length}
+use Rattle.reader.specs.declared.Step.{Step}
+use Rattle.meter.specs.Files.{step-code, step-laid}
 use borrow.Author.Needs.{needs}
 use Rattle.meter.proofs.files.meter_call.Statement.{statement}
 use Rattle.meter.proofs.files.meter_call.Tie as tie
-use Rattle.meter.proofs.files.meter_call.Reads as reads
-use Rattle.meter.proofs.files.meter_call.Lts as lts
-use Rattle.meter.proofs.put_first.Reads as put-first-reads
-use Rattle.reader.proofs.after.Reads as after-reads
-use Rattle.reader.proofs.decode.Reads as decode-reads
 
--- src/files.rt:173:9
 returns : tie.Need-returns
-returns c = ?
+returns c = let h = lt-leb 3 (length (c .before .before .before .args .answer .now)) (c .if1 .taken) in (rw h refl, rw h refl)
 
--- src/files.rt:175:9
-decode-requires : tie.Need-decode-requires
-decode-requires c κs = search needs
-
--- src/files.rt:177:22
-enum-known-step : tie.Need-enum-known-step
-enum-known-step c = search needs
-
--- src/files.rt:178:17
-after-requires : tie.Need-after-requires
-after-requires c κs = search needs
-
--- src/files.rt:179:23
-cast-t12 : tie.Need-cast-t12
-cast-t12 c = search needs
-
--- src/files.rt:179:36
-cast-t13 : tie.Need-cast-t13
-cast-t13 c = search needs
-
--- src/files.rt:180:31
-slice-aggregate-put-first : tie.Need-slice-aggregate-put-first
-slice-aggregate-put-first c = search needs
-
--- src/files.rt:180:13
-put-first-requires : tie.Need-put-first-requires
-put-first-requires c κs = search needs
-
--- src/files.rt:183:22
-enum-told : tie.Need-enum-told
-enum-told c = search needs
-
--- src/files.rt:164:1
-same-length : tie.Need-same-length
-same-length c = search needs
-
--- src/files.rt:164:1
 returns-2 : tie.Need-returns-2
-returns-2 c = ?
+returns-2 c = let a = c .before .before .before .before .before .before .before .before .before .before .before .before .before .args in
+    let h = le-leb 3 (length (a .answer .now)) (c .before .before .before .before .before .before .before .before .before .before .if1 .left) in
+    let e = sym (c .before .before .before .before .before .before .before .step .given .1) ∙ c .before .before .before .before .before .before .before .before .before .decode .ensures in
+    (rw h (ap step-code e), rw h (call-laid (a .section .now) (a .position) _ _ (c .before .before .before .before .before .after .result) _ (a .answer .now) _ e (c .before .before .before .before .before .after .ensures) (c .before .before .put-first .ensures)))
 
--- src/files.rt:164:1
 returns-3 : tie.Need-returns-3
-returns-3 c = ?
+returns-3 c = let a = c .before .before .before .before .before .before .args in
+    let h = le-leb 3 (length (a .answer .now)) (c .before .before .before .if1 .left) in
+    let e = sym (c .enum-told .given .1) ∙ c .before .before .decode .ensures in
+    (rw h (ap step-code e), rw h (ap (λ (x : Step). step-laid (a .section .now) (a .position) x (a .answer .now)) e))
 
 pub meter-call-spec : {M : Type 1} → statement M
 meter-call-spec =
     tie.close
     (tie.spec
     returns
-    decode-requires
-    enum-known-step
-    after-requires
-    cast-t12
-    cast-t13
-    slice-aggregate-put-first
-    put-first-requires
-    enum-told
-    same-length
+    (λ c κs. search needs)
+    (λ c. search needs)
+    (λ c κs. search needs)
+    (λ c. search needs)
+    (λ c. search needs)
+    (λ c. search needs)
+    (λ c κs. search needs)
+    (λ c. search needs)
+    (λ c. search needs)
     returns-2
     returns-3)

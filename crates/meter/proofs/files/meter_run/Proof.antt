@@ -1,90 +1,58 @@
+-- `meter::files::meter_run` meets its contract. Assumes nothing.
+use mathlib.Core.Path.{_≡_, refl, sym, _∙_, ap}
+use mathlib.Core.Bool.{true}
+use lib.ListN.{length}
+use borrow.Author.Tests.{lt-leb, le-leb, not-true, not-false}
+use Rattle.report.proofs.Running.{section-once}
+use Rattle.meter.specs.Calls.{sound-numbers}
+use Rattle.meter.proofs.Ran.{run-0, run-declined, run-done}
 use borrow.Author.Needs.{needs}
 use Rattle.meter.proofs.files.meter_run.Statement.{statement}
 use Rattle.meter.proofs.files.meter_run.Tie as tie
-use Rattle.meter.proofs.files.meter_run.Reads as reads
-use Rattle.meter.proofs.files.meter_run.Lts as lts
-use Rattle.meter.proofs.calls.sound_held.Reads as sound-held-reads
-use Rattle.meter.proofs.files.run_held.Reads as run-held-reads
-use Rattle.meter.proofs.put_number.Reads as put-number-reads
-use Rattle.sections.proofs.part.Reads as part-reads
-use Rattle.tripfile.proofs.reading.read.Reads as read-reads
 
--- src/files.rt:214:9
 returns : tie.Need-returns
-returns c = ?
+returns c = let h = lt-leb 1 (length (c .before .before .before .before .args .answer .now)) (c .if1 .taken) in (rw h refl, (rw h refl, rw h refl))
 
--- src/files.rt:216:9
-sound-held-requires : tie.Need-sound-held-requires
-sound-held-requires c κs = search needs
-
--- src/files.rt:217:9
-same-length : tie.Need-same-length
-same-length c = search needs
-
--- src/files.rt:217:9
 returns-2 : tie.Need-returns-2
-returns-2 c = ?
+returns-2 c = let a = c .before .before .before .before .before .before .before .args in
+    let h = le-leb 1 (length (a .answer .now)) (c .before .before .before .if1 .left) in
+    rw h (run-0 (a .account .now) (a .file .now) (a .answer .now) (sym (c .before .sound-held .ensures) ∙ not-true _ (c .if2 .taken)))
 
--- src/files.rt:219:9
-read-requires : tie.Need-read-requires
-read-requires c κs = search needs
-
--- src/files.rt:222:36
-enum-told : tie.Need-enum-told
-enum-told c = search needs
-
--- src/files.rt:222:45
 part-requires : tie.Need-part-requires
-part-requires c κs = ?
+part-requires c κs = section-once _ _ _ (sym (c .before .before .before .read .ensures) ∙ c .before .enum-told .given .1)
 
--- src/files.rt:222:17
 run-held-requires : tie.Need-run-held-requires
-run-held-requires c κs = ?
+run-held-requires c κs = sym (c .before .before .before .before .before .before .sound-held .ensures) ∙ not-false _ (c .before .before .before .before .before .if2 .left)
 
--- src/files.rt:223:13
-put-number-requires : tie.Need-put-number-requires
-put-number-requires c κs = search needs
-
--- src/files.rt:226:23
-enum-known-read : tie.Need-enum-known-read
-enum-known-read c = search needs
-
--- src/files.rt:204:1
-same-length-2 : tie.Need-same-length-2
-same-length-2 c = search needs
-
--- src/files.rt:204:1
-same-length-3 : tie.Need-same-length-3
-same-length-3 c = search needs
-
--- src/files.rt:204:1
 returns-3 : tie.Need-returns-3
-returns-3 c = ?
+returns-3 c = let a = c .before .before .before .before .before .before .before .before .before .before .before .before .before .before .before .before .before .before .before .args in
+    let h = le-leb 1 (length (a .answer .now)) (c .before .before .before .before .before .before .before .before .before .before .before .before .before .before .before .if1 .left) in
+    let s = sym (c .before .before .before .before .before .before .before .before .before .before .before .before .before .sound-held .ensures) ∙ not-false _ (c .before .before .before .before .before .before .before .before .before .before .before .before .if2 .left) in
+    let e = sym (c .before .before .before .before .before .before .before .before .before .before .before .read .ensures) ∙ c .before .before .before .before .before .before .before .before .before .enum-told .given .1 in
+    let r = c .before .before .before .before .before .before .run-held in
+    rw h (run-done (a .account .now) (a .file .now) (a .answer .now) _ _ (c .before .before .before .before .before .before .before .part .result .now) _ _ (r .result) s e (c .before .before .before .before .before .before .before .part .ensures .0) (r .ensures .0) (r .ensures .1) (c .before .before .put-number .ensures))
 
--- src/files.rt:204:1
-same-length-4 : tie.Need-same-length-4
-same-length-4 c = search needs
-
--- src/files.rt:204:1
 returns-4 : tie.Need-returns-4
-returns-4 c = ?
+returns-4 c = let a = c .before .before .before .before .before .before .before .before .before .before .before .args in
+    let h = le-leb 1 (length (a .answer .now)) (c .before .before .before .before .before .before .before .if1 .left) in
+    rw h (run-declined (a .account .now) (a .file .now) (a .answer .now) _ (sym (c .before .before .before .before .before .sound-held .ensures) ∙ not-false _ (c .before .before .before .before .if2 .left)) (sym (c .before .before .before .read .ensures) ∙ c .before .read2 .given .1))
 
 pub meter-run-spec : {M : Type 1} → statement M
 meter-run-spec =
     tie.close
     (tie.spec
     returns
-    sound-held-requires
-    same-length
+    (λ c κs. search needs)
+    (λ c. search needs)
     returns-2
-    read-requires
-    enum-told
+    (λ c κs. search needs)
+    (λ c. search needs)
     part-requires
     run-held-requires
-    put-number-requires
-    enum-known-read
-    same-length-2
-    same-length-3
+    (λ c κs. search needs)
+    (λ c. search needs)
+    (λ c. search needs)
+    (λ c. search needs)
     returns-3
-    same-length-4
+    (λ c. search needs)
     returns-4)

@@ -1,52 +1,42 @@
+-- `meter::files::meter_statement` meets its contract. Assumes nothing.
+use mathlib.Core.Path.{refl, sym, _∙_, ap}
+use native.Mathlib.Omega.{arith}
+use borrow.Author.Tests.{lt-leb, le-leb}
+use lib.ListN.{length}
+use Rattle.report.specs.declared.Report.{Report}
+use Rattle.meter.specs.Files.{report-code, report-laid}
+use Rattle.meter.proofs.Ran.{limit-fits}
 use borrow.Author.Needs.{needs}
 use Rattle.meter.proofs.files.meter_statement.Statement.{statement}
 use Rattle.meter.proofs.files.meter_statement.Tie as tie
-use Rattle.meter.proofs.files.meter_statement.Reads as reads
-use Rattle.meter.proofs.files.meter_statement.Lts as lts
-use Rattle.meter.proofs.files.put_figures.Reads as put-figures-reads
-use Rattle.report.proofs.statement_of.Reads as statement-of-reads
 
--- src/files.rt:53:9
 returns : tie.Need-returns
-returns c = ?
+returns c = let h = lt-leb 9 (length (c .before .before .before .args .answer .now)) (c .if1 .taken) in (rw h refl, rw h refl)
 
--- src/files.rt:55:9
-statement-of-requires : tie.Need-statement-of-requires
-statement-of-requires c κs = search needs
-
--- src/files.rt:57:23
-enum-known-r : tie.Need-enum-known-r
-enum-known-r c = search needs
-
--- src/files.rt:58:13
 put-figures-requires : tie.Need-put-figures-requires
-put-figures-requires c κs = ?
+put-figures-requires c κs = (omega (arith, c .before .before .before .before .before .if1 .left), limit-fits (c .before .before .before .before .before .before .before .before .args .file .now) _ (sym (c .before .before .before .before .statement-of .ensures) ∙ c .before .before .r .given .1))
 
--- src/files.rt:61:25
-enum-known-r-2 : tie.Need-enum-known-r-2
-enum-known-r-2 c = search needs
-
--- src/files.rt:45:1
-same-length : tie.Need-same-length
-same-length c = search needs
-
--- src/files.rt:45:1
 returns-2 : tie.Need-returns-2
-returns-2 c = ?
+returns-2 c = let a = c .before .before .before .before .before .before .before .before .before .before .before .args in
+    let h = le-leb 9 (length (a .answer .now)) (c .before .before .before .before .before .before .before .before .if1 .left) in
+    let e = sym (c .before .before .before .before .before .r .given .1) ∙ c .before .before .before .before .before .before .before .statement-of .ensures in
+    (rw h (ap report-code e), rw h (c .before .before .put-figures .ensures ∙ ap (λ (x : Report). report-laid x (a .answer .now)) e))
 
--- src/files.rt:45:1
 returns-3 : tie.Need-returns-3
-returns-3 c = ?
+returns-3 c = let a = c .before .before .before .before .before .before .before .args in
+    let h = le-leb 9 (length (a .answer .now)) (c .before .before .before .before .if1 .left) in
+    let e = sym (c .before .r2 .given .1) ∙ c .before .before .before .statement-of .ensures in
+    (rw h (ap report-code e), rw h (ap (λ (x : Report). report-laid x (a .answer .now)) e))
 
 pub meter-statement-spec : {M : Type 1} → statement M
 meter-statement-spec =
     tie.close
     (tie.spec
     returns
-    statement-of-requires
-    enum-known-r
+    (λ c κs. search needs)
+    (λ c. search needs)
     put-figures-requires
-    enum-known-r-2
-    same-length
+    (λ c. search needs)
+    (λ c. search needs)
     returns-2
     returns-3)

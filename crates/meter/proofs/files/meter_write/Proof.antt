@@ -1,56 +1,36 @@
+-- `meter::files::meter_write` meets its contract. Assumes nothing.
+use mathlib.Core.Path.{_≡_, sym, _∙_, ap}
+use native.Mathlib.Omega.{arith}
+use Rattle.tariff.specs.declared.Terms.{Terms}
+use Rattle.tariff.specs.Plan.{plan-of}
+use Rattle.meter.proofs.Ran.{room-there, room-missing, plan-seven, room-one, write-granted, write-declined, write-bad}
 use borrow.Author.Needs.{needs}
 use Rattle.meter.proofs.files.meter_write.Statement.{statement}
 use Rattle.meter.proofs.files.meter_write.Tie as tie
-use Rattle.meter.proofs.files.meter_write.Reads as reads
-use Rattle.meter.proofs.files.meter_write.Lts as lts
-use Rattle.meter.proofs.files.put_written.Reads as put-written-reads
-use Rattle.numbers.proofs.terms_of.Reads as terms-of-reads
-use Rattle.tariff.proofs.plans.plan_from.Reads as plan-from-reads
-use Rattle.tripfile.proofs.writing.write.Reads as write-reads
 
--- src/files.rt:151:9
 returns : tie.Need-returns
-returns c = ?
+returns c = let a = c .before .before .before .before .before .before .args in
+    write-bad (a .plan .now) (a .codes .now) (a .numbers .now) (a .buffer .now) (a .answer .now) (room-missing (a .plan .now) (a .answer .now) (c .if1 .taken))
 
--- src/files.rt:153:44
 terms-of-requires : tie.Need-terms-of-requires
-terms-of-requires c κs = ?
+terms-of-requires c κs = let a = c .before .before .before .before .before .before .args in omega (arith, plan-seven (a .plan .now) (a .answer .now) (room-there (a .plan .now) (a .answer .now) (c .if1 .left)))
 
--- src/files.rt:153:9
-plan-from-requires : tie.Need-plan-from-requires
-plan-from-requires c κs = search needs
-
--- src/files.rt:155:29
-enum-known-granted : tie.Need-enum-known-granted
-enum-known-granted c = search needs
-
--- src/files.rt:156:17
-write-requires : tie.Need-write-requires
-write-requires c κs = search needs
-
--- src/files.rt:157:13
 put-written-requires : tie.Need-put-written-requires
-put-written-requires c κs = ?
+put-written-requires c κs = let a = c .before .before .before .before .before .before .before .before .before .before .before .before .before .before .before .before .args in room-one (a .plan .now) (a .answer .now) (room-there (a .plan .now) (a .answer .now) (c .before .before .before .before .before .before .before .before .before .before .if1 .left))
 
--- src/files.rt:159:29
-enum-known-granted-2 : tie.Need-enum-known-granted-2
-enum-known-granted-2 c = search needs
-
--- src/files.rt:135:1
-same-length : tie.Need-same-length
-same-length c = search needs
-
--- src/files.rt:135:1
-same-length-2 : tie.Need-same-length-2
-same-length-2 c = search needs
-
--- src/files.rt:135:1
 returns-2 : tie.Need-returns-2
-returns-2 c = ?
+returns-2 c = let a = c .before .before .before .before .before .before .before .before .before .before .before .before .before .before .before .before .before .before .before .args in
+    let h = room-there (a .plan .now) (a .answer .now) (c .before .before .before .before .before .before .before .before .before .before .before .before .before .if1 .left) in
+    let e = sym (c .before .before .before .before .before .before .before .before .before .before .before .plan-from .ensures ∙ ap plan-of (c .before .before .before .before .before .before .before .before .before .before .before .before .terms-of .ensures)) ∙ c .before .before .before .before .before .before .before .before .before .granted .given .1 in
+    let w = c .before .before .before .before .before .before .write in
+    let g = write-granted (a .plan .now) (a .codes .now) (a .numbers .now) (a .buffer .now) (a .answer .now) h _ (w .result) _ _ e (w .ensures .0) (w .ensures .1) (c .before .before .put-written .ensures .1) in
+    (c .before .before .put-written .ensures .0 ∙ g .0, g .1)
 
--- src/files.rt:135:1
 returns-3 : tie.Need-returns-3
-returns-3 c = ?
+returns-3 c = let a = c .before .before .before .before .before .before .before .before .before .before .before .args in
+    let h = room-there (a .plan .now) (a .answer .now) (c .before .before .before .before .before .if1 .left) in
+    let e = sym (c .before .before .before .plan-from .ensures ∙ ap plan-of (c .before .before .before .before .terms-of .ensures)) ∙ c .before .granted2 .given .1 in
+    write-declined (a .plan .now) (a .codes .now) (a .numbers .now) (a .buffer .now) (a .answer .now) h _ e
 
 pub meter-write-spec : {M : Type 1} → statement M
 meter-write-spec =
@@ -58,12 +38,12 @@ meter-write-spec =
     (tie.spec
     returns
     terms-of-requires
-    plan-from-requires
-    enum-known-granted
-    write-requires
+    (λ c κs. search needs)
+    (λ c. search needs)
+    (λ c κs. search needs)
     put-written-requires
-    enum-known-granted-2
-    same-length
-    same-length-2
+    (λ c. search needs)
+    (λ c. search needs)
+    (λ c. search needs)
     returns-2
     returns-3)
