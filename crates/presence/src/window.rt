@@ -8,6 +8,7 @@ use super::log;
 ghost use mathlib.Core.Path.{_≡_};
 ghost use Prim.Native.Nat.{_+_, _≤_, _<_, min};
 ghost use lib.Dec.{ltb};
+ghost use lib.ListN.{length};
 ghost use Rattle.presence.specs.Day.{day-units, zone-day, on-day};
 ghost use Rattle.presence.specs.Window.{zone-units, other-units, sum-days};
 ghost use Rattle.presence.specs.Log.{days-of, units-over};
@@ -65,8 +66,8 @@ fn other_of(d: Day, s: Service) -> u64
 }
 
 // The zone days among the last w days: those among one day less, and the day before them, which is read first.
-fn zone_days(log: &[u64; 1599], w: usize) -> u64
-    requires { ⌜ w ≤ 123 ⌝ }
+fn zone_days(log: &[u64], w: usize) -> u64
+    requires { ⌜ (w ≤ 123) × (length (now log) ≡ 1599) ⌝ }
     ensures { λ r. ⌜ r ≡ sum-days zone-day w (days-of (now (log .entry))) ⌝ }
 {
     if w == 0 {
@@ -78,8 +79,8 @@ fn zone_days(log: &[u64; 1599], w: usize) -> u64
 }
 
 // The days that are not off, among the last w days.
-fn on_days(log: &[u64; 1599], w: usize) -> u64
-    requires { ⌜ w ≤ 123 ⌝ }
+fn on_days(log: &[u64], w: usize) -> u64
+    requires { ⌜ (w ≤ 123) × (length (now log) ≡ 1599) ⌝ }
     ensures { λ r. ⌜ r ≡ sum-days on-day w (days-of (now (log .entry))) ⌝ }
 {
     if w == 0 {
@@ -91,8 +92,8 @@ fn on_days(log: &[u64; 1599], w: usize) -> u64
 }
 
 // The zone units of a service over the last w days.
-fn zone_sum(log: &[u64; 1599], v: Service, w: usize) -> u64
-    requires { ⌜ (w ≤ 123) × Low (units-over w (days-of (now log))) ⌝ }
+fn zone_sum(log: &[u64], v: Service, w: usize) -> u64
+    requires { ⌜ (w ≤ 123) × Low (units-over w (days-of (now log))) × (length (now log) ≡ 1599) ⌝ }
     ensures { λ r. ⌜ r ≡ sum-days (zone-units v) w (days-of (now (log .entry))) ⌝ }
 {
     if w == 0 {
@@ -104,8 +105,8 @@ fn zone_sum(log: &[u64; 1599], v: Service, w: usize) -> u64
 }
 
 // The other units of a service over the last w days.
-fn other_sum(log: &[u64; 1599], v: Service, w: usize) -> u64
-    requires { ⌜ (w ≤ 123) × Low (units-over w (days-of (now log))) ⌝ }
+fn other_sum(log: &[u64], v: Service, w: usize) -> u64
+    requires { ⌜ (w ≤ 123) × Low (units-over w (days-of (now log))) × (length (now log) ≡ 1599) ⌝ }
     ensures { λ r. ⌜ r ≡ sum-days (other-units v) w (days-of (now (log .entry))) ⌝ }
 {
     if w == 0 {
@@ -117,8 +118,8 @@ fn other_sum(log: &[u64; 1599], v: Service, w: usize) -> u64
 }
 
 // Do the zone units of a service exceed its other units?
-fn zone_exceeds(log: &[u64; 1599], v: Service, w: usize) -> bool
-    requires { ⌜ (w ≤ 123) × Low (units-over w (days-of (now log))) ⌝ }
+fn zone_exceeds(log: &[u64], v: Service, w: usize) -> bool
+    requires { ⌜ (w ≤ 123) × Low (units-over w (days-of (now log))) × (length (now log) ≡ 1599) ⌝ }
     ensures { λ r. ⌜ r ≡ ltb (sum-days (other-units v) w (days-of (now (log .entry))))
         (sum-days (zone-units v) w (days-of (now (log .entry)))) ⌝ }
 {
@@ -129,8 +130,8 @@ fn zone_exceeds(log: &[u64; 1599], v: Service, w: usize) -> bool
 
 // Which services are prevalent over the last w days? Off days are in neither count of days. Where zone days are too few
 // none is, and no units are summed.
-fn prevalent_over(log: &[u64; 1599], w: usize) -> Prevalent
-    requires { ⌜ (w ≤ 123) × Low (units-over w (days-of (now log))) ⌝ }
+fn prevalent_over(log: &[u64], w: usize) -> Prevalent
+    requires { ⌜ (w ≤ 123) × Low (units-over w (days-of (now log))) × (length (now log) ≡ 1599) ⌝ }
     ensures { λ r. ⌜ r ≡ prevalent-over w (days-of (now (log .entry))) ⌝ }
 {
     let zone = zone_days(log, w);
@@ -160,8 +161,8 @@ fn lesser(m: usize, n: usize) -> usize
 
 // Which services are prevalent over the last w days, or over the n logged days where these are fewer? Where this is not
 // asked the log is not read, and the answer is none.
-pub fn prevalent_where(asked: bool, log: &[u64; 1599], w: usize, n: usize) -> Prevalent
-    requires { ⌜ (n ≤ 123) × Low (units-over n (days-of (now log))) ⌝ }
+pub fn prevalent_where(asked: bool, log: &[u64], w: usize, n: usize) -> Prevalent
+    requires { ⌜ (n ≤ 123) × Low (units-over n (days-of (now log))) × (length (now log) ≡ 1599) ⌝ }
     ensures { λ r. ⌜ r ≡ prevalent-where asked w n (days-of (now (log .entry))) ⌝ }
 {
     if asked {

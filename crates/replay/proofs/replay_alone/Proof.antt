@@ -8,4 +8,4 @@ run-section-requires : tie.Need-run-section-requires
 run-section-requires c κs = (search needs, λ e. absurd (false≢true e))
 
 pub replay-alone-spec : {M : Type 1} → statement M
-replay-alone-spec = tie.close (tie.spec run-section-requires (λ c. search needs))
+replay-alone-spec = tie.close (tie.spec (λ c. search needs) run-section-requires (λ c. search needs))

@@ -33,7 +33,7 @@ on-days-returns : (t : ℕ) → on-days-lts.Need-returns (
   on-days-below t,
   on-days.Post,
 ) (on-days-at t) on-days.Post
-on-days-returns t c = let a = c .before .args in
+on-days-returns t c = let a = c .before .before .args in
     sym (sum-none on-day (a .w) (days-of (a .log .now)) (omega (arith, c .if1 .taken)))
 
 on-days-sub-last : (t : ℕ) → on-days-lts.Need-sub-last (
@@ -85,9 +85,9 @@ on-days-sum : (t : ℕ) (c : on-days-lts.After-on-days (
   on-days-below t,
   on-days.Post,
 ) (on-days-at t) on-days.Post)
-    → let a = c .before .before .before .before .args in
+    → let a = c .before .before .before .before .before .args in
     c .before .on-day .result + c .on-days .result ≡ sum-days on-day (a .w) (days-of (a .log .now))
-on-days-sum t c = let a = c .before .before .before .before .args in
+on-days-sum t c = let a = c .before .before .before .before .before .args in
     rw (c .before .on-day .ensures, c .before .before .day-at .ensures, c .on-days .ensures)
     (sym (sum-more on-day (a .w) (days-of (a .log .now)) (c .before .before .before .if1 .left)))
 
@@ -99,9 +99,9 @@ on-days-add-result : (t : ℕ) → on-days-lts.Need-add-result (
   on-days-below t,
   on-days.Post,
 ) (on-days-at t) on-days.Post
-on-days-add-result t c = let d = c .before .before .before .before in
+on-days-add-result t c = let d = c .before .before .before .before .before in
     let a = d .args in
-    omega (arith, on-days-sum t c, on-days-counted (a .w) (days-of (a .log .now)), d .pre .1)
+    omega (arith, on-days-sum t c, on-days-counted (a .w) (days-of (a .log .now)), d .pre .1 .0)
 
 on-days-returns-2 : (t : ℕ) → on-days-lts.Need-returns-2 (
   day-at-reads.Asked,

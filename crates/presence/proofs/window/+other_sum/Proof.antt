@@ -32,7 +32,7 @@ other-sum-returns : (t : ℕ) → other-sum-lts.Need-returns (
   other-sum-below t,
   other-sum.Post,
 ) (other-sum-at t) other-sum.Post
-other-sum-returns t c = let a = c .before .args in
+other-sum-returns t c = let a = c .before .before .args in
     sym (sum-none (other-units (a .v)) (a .w) (days-of (a .log .now)) (omega (arith, c .if1 .taken)))
 
 other-sum-sub-last : (t : ℕ) → other-sum-lts.Need-sub-last (
@@ -63,7 +63,7 @@ other-sum-other-of-requires : (t : ℕ) → other-sum-lts.Need-other-of-requires
   other-sum-below t,
   other-sum.Post,
 ) (other-sum-at t) other-sum.Post
-other-sum-other-of-requires t c κs = let d = c .before .before in
+other-sum-other-of-requires t c κs = let d = c .before .before .before in
     let a = d .args in
     let k : a .w - 1 < a .w = omega (arith, c .before .if1 .left) in
     rw (c .day-at .ensures) (day-low (a .w) (a .w - 1) (days-of (a .log .now)) k (d .pre .1 .1))
@@ -76,9 +76,10 @@ other-sum-other-sum-requires : (t : ℕ) → other-sum-lts.Need-other-sum-requir
   other-sum-below t,
   other-sum.Post,
 ) (other-sum-at t) other-sum.Post
-other-sum-other-sum-requires t c κs = let d = c .before .before .before in
+other-sum-other-sum-requires t c κs = let d = c .before .before .before .before in
     let a = d .args in
-    (omega arith, fewer-low (a .w - 1) (a .w) (days-of (a .log .now)) (omega arith) (d .pre .1 .0) (d .pre .1 .1))
+    let f = fewer-low (a .w - 1) (a .w) (days-of (a .log .now)) (omega arith) (d .pre .1 .0) (d .pre .1 .1) in
+    (omega arith, (f .0, f .1, d .pre .1 .2))
 
 -- the sum of the day and of those after it
 other-sum-sum : (t : ℕ) (c : other-sum-lts.After-other-sum (
@@ -89,9 +90,9 @@ other-sum-sum : (t : ℕ) (c : other-sum-lts.After-other-sum (
   other-sum-below t,
   other-sum.Post,
 ) (other-sum-at t) other-sum.Post)
-    → let a = c .before .before .before .before .args in
+    → let a = c .before .before .before .before .before .args in
     c .before .other-of .result + c .other-sum .result ≡ sum-days (other-units (a .v)) (a .w) (days-of (a .log .now))
-other-sum-sum t c = let a = c .before .before .before .before .args in
+other-sum-sum t c = let a = c .before .before .before .before .before .args in
     rw (c .before .other-of .ensures, c .before .before .day-at .ensures, c .other-sum .ensures)
     (sym (sum-more (other-units (a .v)) (a .w) (days-of (a .log .now)) (c .before .before .before .if1 .left)))
 
@@ -103,7 +104,7 @@ other-sum-add-result : (t : ℕ) → other-sum-lts.Need-add-result (
   other-sum-below t,
   other-sum.Post,
 ) (other-sum-at t) other-sum.Post
-other-sum-add-result t c = let d = c .before .before .before .before in
+other-sum-add-result t c = let d = c .before .before .before .before .before in
     let a = d .args in
     omega (arith, other-sum-sum t c, sum-small (other-units (a .v)) (other-moderate (a .v)) (a .w) (days-of (a .log .now)) (d .pre .1 .0) (d .pre .1 .1))
 

@@ -33,7 +33,7 @@ zone-days-returns : (t : ℕ) → zone-days-lts.Need-returns (
   zone-days-below t,
   zone-days.Post,
 ) (zone-days-at t) zone-days.Post
-zone-days-returns t c = let a = c .before .args in
+zone-days-returns t c = let a = c .before .before .args in
     sym (sum-none zone-day (a .w) (days-of (a .log .now)) (omega (arith, c .if1 .taken)))
 
 zone-days-sub-last : (t : ℕ) → zone-days-lts.Need-sub-last (
@@ -85,9 +85,9 @@ zone-days-sum : (t : ℕ) (c : zone-days-lts.After-zone-days (
   zone-days-below t,
   zone-days.Post,
 ) (zone-days-at t) zone-days.Post)
-    → let a = c .before .before .before .before .args in
+    → let a = c .before .before .before .before .before .args in
     c .before .zone-day .result + c .zone-days .result ≡ sum-days zone-day (a .w) (days-of (a .log .now))
-zone-days-sum t c = let a = c .before .before .before .before .args in
+zone-days-sum t c = let a = c .before .before .before .before .before .args in
     rw (c .before .zone-day .ensures, c .before .before .day-at .ensures, c .zone-days .ensures)
     (sym (sum-more zone-day (a .w) (days-of (a .log .now)) (c .before .before .before .if1 .left)))
 
@@ -99,9 +99,9 @@ zone-days-add-result : (t : ℕ) → zone-days-lts.Need-add-result (
   zone-days-below t,
   zone-days.Post,
 ) (zone-days-at t) zone-days.Post
-zone-days-add-result t c = let d = c .before .before .before .before in
+zone-days-add-result t c = let d = c .before .before .before .before .before in
     let a = d .args in
-    omega (arith, zone-days-sum t c, zone-days-counted (a .w) (days-of (a .log .now)), d .pre .1)
+    omega (arith, zone-days-sum t c, zone-days-counted (a .w) (days-of (a .log .now)), d .pre .1 .0)
 
 zone-days-returns-2 : (t : ℕ) → zone-days-lts.Need-returns-2 (
   day-at-reads.Asked,

@@ -32,7 +32,7 @@ zone-sum-returns : (t : ℕ) → zone-sum-lts.Need-returns (
   zone-sum-below t,
   zone-sum.Post,
 ) (zone-sum-at t) zone-sum.Post
-zone-sum-returns t c = let a = c .before .args in
+zone-sum-returns t c = let a = c .before .before .args in
     sym (sum-none (zone-units (a .v)) (a .w) (days-of (a .log .now)) (omega (arith, c .if1 .taken)))
 
 zone-sum-sub-last : (t : ℕ) → zone-sum-lts.Need-sub-last (
@@ -63,7 +63,7 @@ zone-sum-zone-of-requires : (t : ℕ) → zone-sum-lts.Need-zone-of-requires (
   zone-sum-below t,
   zone-sum.Post,
 ) (zone-sum-at t) zone-sum.Post
-zone-sum-zone-of-requires t c κs = let d = c .before .before in
+zone-sum-zone-of-requires t c κs = let d = c .before .before .before in
     let a = d .args in
     let k : a .w - 1 < a .w = omega (arith, c .before .if1 .left) in
     rw (c .day-at .ensures) (day-low (a .w) (a .w - 1) (days-of (a .log .now)) k (d .pre .1 .1))
@@ -76,9 +76,10 @@ zone-sum-zone-sum-requires : (t : ℕ) → zone-sum-lts.Need-zone-sum-requires (
   zone-sum-below t,
   zone-sum.Post,
 ) (zone-sum-at t) zone-sum.Post
-zone-sum-zone-sum-requires t c κs = let d = c .before .before .before in
+zone-sum-zone-sum-requires t c κs = let d = c .before .before .before .before in
     let a = d .args in
-    (omega arith, fewer-low (a .w - 1) (a .w) (days-of (a .log .now)) (omega arith) (d .pre .1 .0) (d .pre .1 .1))
+    let f = fewer-low (a .w - 1) (a .w) (days-of (a .log .now)) (omega arith) (d .pre .1 .0) (d .pre .1 .1) in
+    (omega arith, (f .0, f .1, d .pre .1 .2))
 
 -- the sum of the day and of those after it
 zone-sum-sum : (t : ℕ) (c : zone-sum-lts.After-zone-sum (
@@ -89,9 +90,9 @@ zone-sum-sum : (t : ℕ) (c : zone-sum-lts.After-zone-sum (
   zone-sum-below t,
   zone-sum.Post,
 ) (zone-sum-at t) zone-sum.Post)
-    → let a = c .before .before .before .before .args in
+    → let a = c .before .before .before .before .before .args in
     c .before .zone-of .result + c .zone-sum .result ≡ sum-days (zone-units (a .v)) (a .w) (days-of (a .log .now))
-zone-sum-sum t c = let a = c .before .before .before .before .args in
+zone-sum-sum t c = let a = c .before .before .before .before .before .args in
     rw (c .before .zone-of .ensures, c .before .before .day-at .ensures, c .zone-sum .ensures)
     (sym (sum-more (zone-units (a .v)) (a .w) (days-of (a .log .now)) (c .before .before .before .if1 .left)))
 
@@ -103,7 +104,7 @@ zone-sum-add-result : (t : ℕ) → zone-sum-lts.Need-add-result (
   zone-sum-below t,
   zone-sum.Post,
 ) (zone-sum-at t) zone-sum.Post
-zone-sum-add-result t c = let d = c .before .before .before .before in
+zone-sum-add-result t c = let d = c .before .before .before .before .before in
     let a = d .args in
     omega (arith, zone-sum-sum t c, sum-small (zone-units (a .v)) (zone-moderate (a .v)) (a .w) (days-of (a .log .now)) (d .pre .1 .0) (d .pre .1 .1))
 
