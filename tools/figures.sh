@@ -96,10 +96,12 @@ hold() { # WHAT FIGURE FIGURE-OF-THE-FILE PER-CENT
         return
         ;;
     esac
+    over="over $4 % "
+    [ "$4" -gt 0 ] || over=
     if [ $((100 * $2)) -gt $(((100 + $4) * $3)) ]; then
-        say "FAILED: $1: is $(grouped "$2"), over $4 % more than the $(grouped "$3") of the file"
+        say "FAILED: $1: is $(grouped "$2"), ${over}more than the $(grouped "$3") of the file"
         failed=$((failed + 1))
     elif [ $((100 * $2)) -lt $(((100 - $4) * $3)) ]; then
-        say "$1: is $(grouped "$2"), over $4 % less than the $(grouped "$3") of the file, which are old"
+        say "$1: is $(grouped "$2"), ${over}less than the $(grouped "$3") of the file, which are old"
     fi
 }

@@ -102,6 +102,7 @@ check_header() {
     if ! diff "$scratch/declared" "$scratch/exported" >"$scratch/differences"; then
         wrong "include/meter.h declares other functions (<) than crates/meter exports (>)"
         cat "$scratch/differences" >&2
+        return
     fi
     say "the header declares $(grep -c . "$scratch/declared") functions, those that the crate exports"
 }
@@ -123,8 +124,9 @@ check_box() {
     if ! diff examples/box.txt "$scratch/text" >"$scratch/differences"; then
         wrong "the box of examples/box.c printed something else (>) than examples/box.txt (<)"
         cat "$scratch/differences" >&2
+        return
     fi
-    say "the box printed its $(grep -c '' "$scratch/text") lines"
+    say "the box printed the $(grep -c '' examples/box.txt) lines of examples/box.txt"
 }
 
 check_names() {
