@@ -1,13 +1,16 @@
 -- The sums of a window, one day at a time, and that those of a sound log stay small. Assumes nothing.
+use Rattle.presence.specs.declared.Column.the-variants.{ZoneDays, OnDays, ZoneUnits, OtherUnits}
+use Rattle.presence.specs.declared.Column.{Column}
+use lib.Seq.{getD-set-same, getD-set-other}
 use Prim.Native.Nat.{ℕ, zero, suc, _+_, _-_, _≤_, _<_}
-use mathlib.Core.Path.{_≡_, refl}
+use mathlib.Core.Path.{_≡_, refl, _∙_}
 use mathlib.Core.Bool.{Bool, true, false, _&&_, _||_}
 use mathlib.Core.List.{List}
 use native.Mathlib.Omega.{arith}
 use native.Mathlib.Numerals.{sub-one}
-use lib.Dec.{leb, ltb}
-use lib.ListN.{getD}
-use borrow.Author.Tests.{le-leb, ltb-false}
+use lib.Dec.{leb, ltb, eqb}
+use lib.ListN.{getD, set, length, length-set}
+use borrow.Author.Tests.{le-leb, ltb-false, eqb-true, eqb-false}
 use Rattle.tariff.specs.declared.Units.{Units}
 use Rattle.presence.specs.declared.Day.{Day}
 use Rattle.presence.specs.declared.DayKind.{DayKind}
@@ -20,7 +23,7 @@ use Rattle.presence.specs.Day.{empty-day, day-units, zone-day, one-if-zo
 use Rattle.presence.specs.Window.{zone-units, other-units, sum-days, prevalent, prevalent-long, prevalent-short}
 use Rattle.presence.specs.Service.{state-step, next-state}
 use Rattle.presence.specs.Log.{units-over}
-use Rattle.presence.specs.Held.{Low, long-asked, short-asked}
+use Rattle.presence.specs.Held.{Low, long-asked, short-asked, column, InColumn, sum-first}
 use Rattle.presence.proofs.Logs.{over-at, over-fewer}
 
 -- what a window may add up: of a day, no more than its units, and 1
@@ -115,3 +118,35 @@ pub asked-third : (x y z : Bool) → z ≡ true → x || y || z ≡ true
 asked-third true y z e = refl
 asked-third false true z e = refl
 asked-third false false z e = e
+
+-- ---- a sum over an array of what the days add
+
+pub sum-first-none : (w : ℕ) (xs : List ℕ) → w ≡ 0 → sum-first w xs ≡ 0
+unfolding sum-first
+sum-first-none w xs e = rw e refl
+
+pub sum-first-more : (w : ℕ) (xs : List ℕ) → (w ≡ 0 → ⊥) → sum-first w xs ≡ getD xs (w - 1) 0 + sum-first (w - 1) xs
+unfolding sum-first
+sum-first-more zero xs h = absurd (h refl)
+sum-first-more (suc w) xs h = rw (sub-one (suc w)) refl
+
+pub column-summed : (c : Column) (w : ℕ) (ds : List Day) (xs : List ℕ) → InColumn c w ds xs → sum-first w xs ≡ sum-days (column c) w ds
+unfolding sum-first sum-days
+column-summed c zero ds xs f = refl
+column-summed c (suc w) ds xs f =
+    rw (f .filled w (omega arith), column-summed c w ds xs (record { places = f .places; filled = λ i h. f .filled i (omega arith) })) refl
+
+-- no such sum is large
+pub column-small : (c : Column) (w : ℕ) (ds : List Day) → w ≤ 123 → Low (units-over w ds) → sum-days (column c) w ds ≤ 5000000000000
+column-small ZoneDays w ds h l = omega (arith, zone-days-counted w ds)
+column-small OnDays w ds h l = omega (arith, on-days-counted w ds)
+column-small (ZoneUnits s) w ds h l = sum-small (zone-units s) (zone-moderate s) w ds h l
+column-small (OtherUnits s) w ds h l = sum-small (other-units s) (other-moderate s) w ds h l
+
+-- one day more
+pub column-more : (c : Column) (i : ℕ) (ds : List Day) (xs : List ℕ) (x : ℕ) → i < 123 → InColumn c i ds xs → x ≡ column c (getD ds i empty-day) → InColumn c (i + 1) ds (set xs i x)
+column-more c i ds xs x h f e = record { places = length-set xs i x ∙ f .places; filled = λ k l. go k l (eqb k i) refl }
+  where
+    go : (k : ℕ) → k < i + 1 → (b : Bool) → eqb k i ≡ b → getD (set xs i x) k 0 ≡ column c (getD ds k empty-day)
+    go k l true q = rw (eqb-true k i q) (getD-set-same xs i x 0 (omega (arith, f .places)) ∙ e)
+    go k l false q = let n = eqb-false k i q in getD-set-other xs i k x 0 n ∙ f .filled k (omega (arith, n))

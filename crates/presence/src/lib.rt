@@ -52,6 +52,14 @@ pub struct Services {
     pub messages: ServiceState,
 }
 
+// What a sum over days adds up: zone days, days that are not off, a service's zone units, its other units.
+enum Column {
+    ZoneDays,
+    OnDays,
+    ZoneUnits(Service),
+    OtherUnits(Service),
+}
+
 // Which services are prevalent over a window of days.
 struct Prevalent {
     internet: bool,

@@ -1,4 +1,5 @@
 // The sums over the last days, and prevalence: document 01, "Account and its calls", Next day, and 02, 1/13.
+use super::Column;
 use super::Day;
 use super::DayKind;
 use super::Prevalent;
@@ -12,7 +13,7 @@ ghost use lib.ListN.{length};
 ghost use Rattle.presence.specs.Day.{day-units, zone-day, on-day};
 ghost use Rattle.presence.specs.Window.{zone-units, other-units, sum-days};
 ghost use Rattle.presence.specs.Log.{days-of, units-over};
-ghost use Rattle.presence.specs.Held.{Low, prevalent-over, prevalent-where};
+ghost use Rattle.presence.specs.Held.{Low, column, InColumn, sum-first, prevalent-over, prevalent-where};
 
 // 1 for a zone day, else 0.
 fn zone_day(d: Day) -> u64
@@ -65,56 +66,54 @@ fn other_of(d: Day, s: Service) -> u64
     }
 }
 
-// The zone days among the last w days: those among one day less, and the day before them, which is read first.
-fn zone_days(log: &[u64], w: usize) -> u64
-    requires { ⌜ (w ≤ 123) × (length (now log) ≡ 1599) ⌝ }
-    ensures { λ r. ⌜ r ≡ sum-days zone-day w (days-of (now (log .entry))) ⌝ }
+// What a day adds to a sum.
+fn column_of(d: Day, c: Column) -> u64
+    requires { ⌜ Low (day-units d) ⌝ }
+    ensures { λ r. ⌜ r ≡ column c d ⌝ }
 {
-    if w == 0 {
-        return 0;
+    match c {
+        Column::ZoneDays => zone_day(d),
+        Column::OnDays => on_day(d),
+        Column::ZoneUnits(s) => zone_of(d, s),
+        Column::OtherUnits(s) => other_of(d, s),
     }
-    let last = w - 1;
-    let x = zone_day(log::day_at(log, last));
-    x + zone_days(log, last)
 }
 
-// The days that are not off, among the last w days.
-fn on_days(log: &[u64], w: usize) -> u64
-    requires { ⌜ (w ≤ 123) × (length (now log) ≡ 1599) ⌝ }
-    ensures { λ r. ⌜ r ≡ sum-days on-day w (days-of (now (log .entry))) ⌝ }
-{
-    if w == 0 {
-        return 0;
-    }
-    let last = w - 1;
-    let x = on_day(log::day_at(log, last));
-    x + on_days(log, last)
-}
-
-// The zone units of a service over the last w days.
-fn zone_sum(log: &[u64], v: Service, w: usize) -> u64
+// What each of the last w days adds, newest first; 0 past them.
+fn column_last(log: &[u64], c: Column, w: usize) -> [u64; 123]
     requires { ⌜ (w ≤ 123) × Low (units-over w (days-of (now log))) × (length (now log) ≡ 1599) ⌝ }
-    ensures { λ r. ⌜ r ≡ sum-days (zone-units v) w (days-of (now (log .entry))) ⌝ }
+    ensures { λ r. ⌜ InColumn c w (days-of (now (log .entry))) r ⌝ }
 {
-    if w == 0 {
-        return 0;
+    let mut xs = [0u64; 123];
+    let mut i: usize = 0;
+    while i < w {
+        xs[i] = column_of(log::day_at(log, i), c);
+        i += 1;
     }
-    let last = w - 1;
-    let x = zone_of(log::day_at(log, last), v);
-    x + zone_sum(log, v, last)
+    xs
 }
 
-// The other units of a service over the last w days.
-fn other_sum(log: &[u64], v: Service, w: usize) -> u64
-    requires { ⌜ (w ≤ 123) × Low (units-over w (days-of (now log))) × (length (now log) ≡ 1599) ⌝ }
-    ensures { λ r. ⌜ r ≡ sum-days (other-units v) w (days-of (now (log .entry))) ⌝ }
+// The sum over the last w days: that over one day less, and what the day before them adds, which is read first. What
+// the days add is an array, so that the compiler makes a loop of this; of a recursion over a slice it does not.
+fn sum_last(xs: &[u64; 123], w: usize) -> u64
+    requires { ⌜ (w ≤ 123) × (sum-first w (now xs) ≤ 5000000000000) ⌝ }
+    ensures { λ r. ⌜ r ≡ sum-first w (now (xs .entry)) ⌝ }
 {
     if w == 0 {
         return 0;
     }
     let last = w - 1;
-    let x = other_of(log::day_at(log, last), v);
-    x + other_sum(log, v, last)
+    let x = xs[last];
+    x + sum_last(xs, last)
+}
+
+// The sum of a column over the last w days.
+fn sum_of(log: &[u64], c: Column, w: usize) -> u64
+    requires { ⌜ (w ≤ 123) × Low (units-over w (days-of (now log))) × (length (now log) ≡ 1599) ⌝ }
+    ensures { λ r. ⌜ r ≡ sum-days (column c) w (days-of (now (log .entry))) ⌝ }
+{
+    let xs = column_last(log, c, w);
+    sum_last(&xs, w)
 }
 
 // Do the zone units of a service exceed its other units?
@@ -123,8 +122,8 @@ fn zone_exceeds(log: &[u64], v: Service, w: usize) -> bool
     ensures { λ r. ⌜ r ≡ ltb (sum-days (other-units v) w (days-of (now (log .entry))))
         (sum-days (zone-units v) w (days-of (now (log .entry)))) ⌝ }
 {
-    let zone = zone_sum(log, v, w);
-    let other = other_sum(log, v, w);
+    let zone = sum_of(log, Column::ZoneUnits(v), w);
+    let other = sum_of(log, Column::OtherUnits(v), w);
     other < zone
 }
 
@@ -134,8 +133,8 @@ fn prevalent_over(log: &[u64], w: usize) -> Prevalent
     requires { ⌜ (w ≤ 123) × Low (units-over w (days-of (now log))) × (length (now log) ≡ 1599) ⌝ }
     ensures { λ r. ⌜ r ≡ prevalent-over w (days-of (now (log .entry))) ⌝ }
 {
-    let zone = zone_days(log, w);
-    let on = on_days(log, w);
+    let zone = sum_of(log, Column::ZoneDays, w);
+    let on = sum_of(log, Column::OnDays, w);
     if 2 * zone <= on {
         return Prevalent {
             internet: false,
