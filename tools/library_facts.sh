@@ -20,8 +20,8 @@ calls_marker='<!-- functions: tools/library_facts.sh -->'
 calls_head='| function | stack at most | deepest seen | instructions |'
 # What the code may call outside of the library.
 allowed='memcmp memcpy memmove memset'
-# The measuring program's own share of what is seen on the stack, at most.
-own_stack=128
+# What is seen on the stack beside a function's own bytes, at most: arguments that do not fit in registers.
+arguments=32
 few=1
 many=3
 
@@ -144,6 +144,7 @@ take_apart() {
     done
     ld -r "$@" lib/libmeter.a -o "$scratch/needed.o"
     nm -u "$scratch/needed.o" >"$scratch/undefined"
+    nm -g --defined-only lib/libmeter.a >"$scratch/global"
     size -A "$scratch/needed.o" >"$scratch/sections"
 }
 
@@ -167,11 +168,18 @@ facts() {
     echo "outside symbols|$(printf '%s' "$outside" | sed 's/ /, /g')"
 }
 
+# Only what is allowed is called outside, and only the functions of the header can be called from there.
 check_symbols() {
     for symbol in $(outside_symbols); do
         case " $allowed " in
         *" $symbol "*) ;;
         *) wrong "the library needs $symbol, which is not one of: $allowed" ;;
+        esac
+    done
+    for symbol in $(awk 'NF == 3 { print $3 }' "$scratch/global"); do
+        case " $functions " in
+        *" $symbol "*) ;;
+        *) wrong "the library has the global symbol $symbol, which is no function of the header" ;;
         esac
     done
 }
@@ -217,7 +225,7 @@ check_function() { # FUNCTION BOUND SEEN INSTRUCTIONS
         failed=$((failed + 1))
         return
     fi
-    [ "$3" -le $(($2 + own_stack)) ] || wrong "$1: the stack was seen to go to $3 bytes, and should end at $2"
+    [ "$3" -le $(($2 + arguments)) ] || wrong "$1: the stack was seen to go to $3 bytes, and should end at $2"
     stack=${stated%%"|"*}
     rest=${stated#*"|"}
     hold "$1, stack" "$2" "$stack" 0

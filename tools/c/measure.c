@@ -134,33 +134,45 @@ static const struct {
 
 /* ---- the deepest stack */
 
+enum { RETURN_ADDRESS = 8 };
+
 static unsigned char room[1 << 17];
 static ucontext_t outside, inside;
-static int current;
+static uint64_t (*current)(void);
 static uint64_t result;
 static size_t deepest[FUNCTIONS], accepted[FUNCTIONS], refused[FUNCTIONS];
 
-static void no_call(void)
+/* A function that takes nothing of the stack but its return address, and that is called as those of the library are. */
+static uint64_t nothing(void)
 {
+    return 0;
 }
 
-static void one_call(void)
+static uint64_t (*volatile taking_nothing)(void) = nothing;
+
+static uint64_t call_nothing(void)
 {
-    result = functions[current].call();
+    return taking_nothing();
 }
 
-/* How many bytes of the painted stack were written while it ran. */
-static size_t depth_of(void (*run)(void))
+static void run_current(void)
+{
+    result = current();
+}
+
+/* How many bytes of the painted stack were written in a call. */
+static size_t depth_of(uint64_t (*call)(void))
 {
     size_t clean = 0;
 
+    current = call;
     memset(room, 0xa5, sizeof room);
     if (getcontext(&inside) != 0)
         die("no context");
     inside.uc_stack.ss_sp = room;
     inside.uc_stack.ss_size = sizeof room;
     inside.uc_link = &outside;
-    makecontext(&inside, run, 0);
+    makecontext(&inside, run_current, 0);
     if (swapcontext(&outside, &inside) != 0)
         die("no other stack");
     while (clean < sizeof room && room[clean] == 0xa5)
@@ -170,10 +182,9 @@ static size_t depth_of(void (*run)(void))
 
 static void make(int function)
 {
-    size_t depth;
+    size_t own = depth_of(call_nothing) - RETURN_ADDRESS;
+    size_t depth = depth_of(functions[function].call) - own;
 
-    current = function;
-    depth = depth_of(one_call) - depth_of(no_call);
     if (depth > deepest[function])
         deepest[function] = depth;
     if (result == METER_ACCEPTED)
