@@ -44,9 +44,9 @@ fresh() { # CRATE RESULT
     [ -z "$changed" ]
 }
 
-# Shows each crate of a build as it ends; those that did not change are only counted. That a library is proved is told
-# with its archive.
-show_build() { # CRATE COUNT
+# Shows each crate of a build as it ends; those that did not change are only counted. The last one of an archive is
+# shown when it begins, too.
+show_build() { # CRATE COUNT COMMAND
     number=0
     while IFS= read -r line; do
         case $line in
@@ -55,8 +55,15 @@ show_build() { # CRATE COUNT
             number=$((number + 1))
             echo "$name: crate $number of $2: ${line#rt: }" >&2
             ;;
-        'rt: target/staticlib/'*) echo "$name: crate $2 of $2: $1 proved, and its archive built" >&2 ;;
+        'rt: target/staticlib/'*)
+            echo "$name: crate $2 of $2: $1 proved, and its archive built" >&2
+            continue
+            ;;
+        *) continue ;;
         esac
+        if [ "$3" = staticlib ] && [ "$number" -eq $(($2 - 1)) ]; then
+            echo "$name: crate $2 of $2: proving $1 and building its archive, which takes about a minute" >&2
+        fi
     done
 }
 
@@ -75,7 +82,8 @@ built() { # CRATE COMMAND RESULT
     echo "$name: building, as $3 is missing or its sources changed; from nothing it takes some minutes" >&2
     mkdir -p "$here/target" "$logs"
     rt version >"$here/target/.began-$1"
-    { (cd "$here" && rt "$2" "$1") </dev/null 2>&1; echo "exit $?"; } | tee "$log" | show_build "$1" "$(count_of "$1")"
+    { (cd "$here" && rt "$2" "$1") </dev/null 2>&1; echo "exit $?"; } | tee "$log" |
+        show_build "$1" "$(count_of "$1")" "$2"
     if [ "$(tail -n 1 "$log")" != "exit 0" ] || [ ! -s "$here/$3" ]; then
         echo "$name: the build failed; the last lines of $log:" >&2
         tail -n 12 "$log" | cut -c 1-200 | sed 's/^/    /' >&2

@@ -144,7 +144,7 @@ take_apart() {
     done
     ld -r "$@" lib/libmeter.a -o "$scratch/needed.o"
     nm -u "$scratch/needed.o" >"$scratch/undefined"
-    nm -g --defined-only lib/libmeter.a >"$scratch/global"
+    global=$(nm -g --defined-only lib/libmeter.a | awk 'NF == 3 { print $3 }')
     size -A "$scratch/needed.o" >"$scratch/sections"
 }
 
@@ -176,7 +176,7 @@ check_symbols() {
         *) wrong "the library needs $symbol, which is not one of: $allowed" ;;
         esac
     done
-    for symbol in $(awk 'NF == 3 { print $3 }' "$scratch/global"); do
+    for symbol in $global; do
         case " $functions " in
         *" $symbol "*) ;;
         *) wrong "the library has the global symbol $symbol, which is no function of the header" ;;
