@@ -30,8 +30,9 @@ use Rattle.account.proofs.Claimed.{refused-changes-nothing}
 use Rattle.account.proofs.Returns.{unsound, step-size}
 use Rattle.numbers.specs.Numbers.{state-numbers, log-part, rest-part, account-numbers, account-from, is-account, Writable}
 use Rattle.numbers.proofs.Laid.{parts-join}
-use Rattle.numbers.proofs.Back.{account-length, numbers-back}
+use Rattle.numbers.proofs.Back.{account-length, account-back, numbers-back}
 use Rattle.meter.specs.Answers.{laid}
+use Rattle.meter.specs.Claims.{CallsFollowTheAccount, RefusedChangesNoNumber}
 use Rattle.meter.specs.Calls.{call-answer, call-numbers, sound-numbers, kind-with-room, is-taken, answer-size, settled, Settles}
 
 -- the log's part, and another log before the same rest
@@ -175,3 +176,24 @@ room-is kind size ys h = leb-true size (length ys) (and-right (leb kind 3) (leb 
 pub first-laid : (s ns zs : List ℕ) → zs ≡ take 0 s ++ (ns ++ drop (0 + length ns) s) → zs ≡ laid ns s
 unfolding laid
 first-laid s ns zs e = let z : 0 + length ns ≡ length ns = omega arith in e ∙ rw z refl
+
+-- the library's calls are the account's
+pub calls-follow : CallsFollowTheAccount
+unfolding call-answer call-numbers
+calls-follow a c h =
+    let b = account-back a h in
+    record {
+      answer = rw (b .known) (ap (λ (x : Account). applied x c .answer) (b .back));
+      numbers = rw (b .known) (ap (λ (x : Account). account-numbers (applied x c .account)) (b .back));
+    }
+
+-- a refused one leaves the numbers
+pub refused-changes-no-number : RefusedChangesNoNumber
+unfolding call-answer call-numbers
+refused-changes-no-number xs c h = go (is-account xs) refl h
+  where
+    go : (b : Bool) → is-account xs ≡ b → is-taken (cond b (applied (account-from xs) c .answer) (Refused 0)) ≡ false → cond b (account-numbers (applied (account-from xs) c .account)) xs ≡ xs
+    go false e k = refl
+    go true e k =
+        let n : accepts (account-from xs) c ≡ false = sym (taken-is (account-from xs) c) ∙ k in
+        ap account-numbers (unfold applied in refused-changes-nothing (account-from xs) c n) ∙ numbers-back xs e .back

@@ -3,6 +3,7 @@ use super::answer_code;
 use super::one_if;
 use super::put_first;
 use super::put_number;
+use super::sound_held;
 use account::Call;
 use state::Answer;
 use state::Charge;
@@ -183,17 +184,6 @@ pub extern "C" fn meter_afford(account: &[u64], kind: u64, answer: &mut [u64]) -
     let x = afford_on(account, kind_of(kind));
     put_answer(answer, x);
     answer_code(x)
-}
-
-// Is it the numbers of a sound account?
-pub fn sound_held(account: &[u64]) -> bool
-    ensures { λ r. ⌜ r ≡ sound-numbers (now (account .entry)) ⌝ }
-{
-    if !numbers::held(account) {
-        return false;
-    }
-    let state = numbers::state_held(account);
-    account::parts_fit(state, &account[..1599])
 }
 
 // 1000 for the numbers of a sound account, else 0.

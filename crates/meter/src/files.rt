@@ -1,7 +1,7 @@
 // Trip files: the statement of one, reading, finding, writing, and its calls on an account in the caller's memory.
-use super::calls;
 use super::put_first;
 use super::put_number;
+use super::sound_held;
 use super::verdict_code;
 use reader::Step;
 use report::Figures;
@@ -232,7 +232,7 @@ pub extern "C" fn meter_run(account: &mut [u64], file: &[u8], answer: &mut [u64]
     if answer.len() < 1 {
         return 1001;
     }
-    if !calls::sound_held(account) {
+    if !sound_held(account) {
         return 0;
     }
     let read = tripfile::reading::read(file);

@@ -2,6 +2,7 @@
 // numbers, and nothing is kept between two calls.
 pub mod calls;
 pub mod caps;
+pub mod claims;
 pub mod files;
 pub mod opening;
 
@@ -13,6 +14,7 @@ ghost use Prim.Native.Nat.{_+_, _≤_, _<_};
 ghost use mathlib.Core.List.{_∷_, []};
 ghost use lib.ListN.{length};
 ghost use Rattle.meter.specs.Answers.{laid, verdict-code, answer-code};
+ghost use Rattle.meter.specs.Calls.{sound-numbers};
 
 // Numbers into the first places of a list; those after them stay.
 fn put_first(out: &mut [u64], ns: &[u64])
@@ -57,4 +59,15 @@ fn answer_code(x: Answer) -> u64
         Answer::UpTo(_) => 1000,
         Answer::Refused(n) => n,
     }
+}
+
+// Is it the numbers of a sound account?
+fn sound_held(account: &[u64]) -> bool
+    ensures { λ r. ⌜ r ≡ sound-numbers (now (account .entry)) ⌝ }
+{
+    if !numbers::held(account) {
+        return false;
+    }
+    let state = numbers::state_held(account);
+    account::parts_fit(state, &account[..1599])
 }

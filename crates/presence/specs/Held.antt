@@ -1,16 +1,16 @@
 -- What the code's own helpers ask and answer: joined bits of numbers, sums that stay small, windows that a step asks
 -- for. Assumes nothing.
-use Prim.Native.Nat.{ℕ, zero, suc, _+_, _*_, _<_}
+use Prim.Native.Nat.{ℕ, zero, suc, _+_, _*_, _/_, _%_, _<_}
 use mathlib.Core.Path.{_≡_}
 use mathlib.Core.Bool.{Bool, true, false, _&&_}
 use mathlib.Core.List.{List}
 use lib.Bits.{bitOr}
-use lib.Dec.{leb}
+use lib.Dec.{eqb, leb}
 use lib.ListN.{getD, length}
 use Rattle.tariff.specs.declared.Units.{Units}
-use Rattle.tariff.specs.Units.{each, AtMost}
+use Rattle.tariff.specs.Units.{each, zero-units, AtMost}
 use Rattle.presence.specs.declared.Column.{Column}
-use Rattle.presence.specs.declared.Column.the-variants.{ZoneDays, OnDays, ZoneUnits, OtherUnits}
+use Rattle.presence.specs.declared.Column.the-variants.{ZoneUnits, OtherUnits}
 use Rattle.presence.specs.declared.Day.{Day}
 use Rattle.presence.specs.declared.Prevalent.{Prevalent}
 use Rattle.presence.specs.declared.ServiceState.{ServiceState}
@@ -46,6 +46,20 @@ place-from from xs i = getD xs (from + i) 0
 abbrev pub marks-kept : List ℕ → ℕ → ℕ
 marks-kept xs i = getD xs (13 * i) 0
 
+-- numbers that are the marks of the w newest days, and a day with such marks and no units
+abbrev pub SameMarks : ℕ → List ℕ → List ℕ → Type 0
+SameMarks w xs ms = (k : ℕ) → k < w → getD ms k 0 ≡ marks-kept xs k
+
+abbrev pub marked-day : ℕ → Day
+marked-day m = record {
+  home = eqb (m % 2) 1;
+  zone = eqb (m / 2 % 2) 1;
+  elsewhere = eqb (m / 4 % 2) 1;
+  athome = zero-units;
+  inzone = zero-units;
+  outside = zero-units;
+}
+
 -- the bits of units of each kind, joined, and those of a day's units
 abbrev pub units-bits : Units → ℕ
 units-bits u = bitOr (bitOr (bitOr (u .kb) (u .outgoing)) (u .incoming)) (u .sms)
@@ -57,10 +71,8 @@ day-bits d = bitOr (bitOr (units-bits (d .athome)) (units-bits (d .inzone))) (un
 abbrev pub Low : Units → Type 0
 Low u = AtMost u lifetime-most
 
--- what a day adds to a sum
+-- what a day adds to a sum of units
 abbrev pub column : Column → Day → ℕ
-column ZoneDays = zone-day
-column OnDays = on-day
 column (ZoneUnits s) = zone-units s
 column (OtherUnits s) = other-units s
 

@@ -52,10 +52,8 @@ pub struct Services {
     pub messages: ServiceState,
 }
 
-// What a sum over days adds up: zone days, days that are not off, a service's zone units, its other units.
+// What a sum of units adds up: a service's zone units, or its other units.
 enum Column {
-    ZoneDays,
-    OnDays,
     ZoneUnits(Service),
     OtherUnits(Service),
 }

@@ -230,21 +230,3 @@ pub fn replay(section: &[u8], a: Account) -> Replayed
         refused: t.refused,
     }
 }
-
-// The same, where each call looks at the account for itself, as a call that comes alone does.
-pub fn replay_alone(section: &[u8], a: Account) -> Replayed
-    ensures { λ r. ⌜ r ≡ run-section a (now (section .entry)) ⌝ }
-{
-    let state = a.state;
-    let mut log = a.log;
-    let t = run_section(section, state, &mut log, false);
-    let last = t.state;
-    let account = Account {
-        state: last,
-        log: log,
-    };
-    Replayed {
-        account: account,
-        refused: t.refused,
-    }
-}

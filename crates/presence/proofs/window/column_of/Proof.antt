@@ -4,16 +4,10 @@ use Rattle.presence.proofs.window.column_of.Statement.{statement}
 use Rattle.presence.proofs.window.column_of.Tie as tie
 
 returns : tie.Need-returns
-returns c = simp (c .zone-day .ensures, c .before .enum-told .given .1)
+returns c = simp (c .zone-of .ensures, c .before .before .c .given .1)
 
 returns-2 : tie.Need-returns-2
-returns-2 c = simp (c .on-day .ensures, c .before .enum-told2 .given .1)
-
-returns-3 : tie.Need-returns-3
-returns-3 c = simp (c .zone-of .ensures, c .before .before .c .given .1)
-
-returns-4 : tie.Need-returns-4
-returns-4 c = simp (c .other-of .ensures, c .before .before .c2 .given .1)
+returns-2 c = simp (c .other-of .ensures, c .before .before .c2 .given .1)
 
 pub column-of-spec : {M : Type 1} → statement M
 column-of-spec =
@@ -23,11 +17,5 @@ column-of-spec =
     (λ c κs. search needs)
     (λ c. search needs)
     (λ c κs. search needs)
-    (λ c. search needs)
-    (λ c κs. search needs)
-    (λ c. search needs)
-    (λ c κs. search needs)
     returns
-    returns-2
-    returns-3
-    returns-4)
+    returns-2)
