@@ -290,7 +290,7 @@ fn wrong_calls(rng: &mut Rng, sections: &mut [Section]) -> Vec<u8> {
 /// 1, 17, 18 or 2: puts a plan with faults in place of the sound one; answers
 /// its number.
 fn wrong_plan(rng: &mut Rng, sections: &mut [Section]) -> u32 {
-    let (words, number) = bad_plan(rng, true, &[u64::from(u32::MAX)]);
+    let (words, number) = bad_plan(rng, &[u64::from(u32::MAX)]);
     *body_of(sections, 1) = to_bytes(&words.map(|word| word as u32));
     number
 }
