@@ -119,7 +119,13 @@ fn wrong_length(rng: &mut Rng, mut bytes: Vec<u8>) -> Vec<u8> {
     match rng.below(6) {
         0 => bytes.truncate(rng.below(bytes.len() as u64) as usize),
         1 => bytes.extend((0..rng.between(1, 9)).map(|_| 0)),
-        2 => bytes = (0..rng.below(12)).map(|_| 0).collect(),
+        2 => {
+            let length = rng.below(12) as usize;
+            bytes = vec![0; length];
+            if length >= 4 && rng.chance(50) {
+                set(&mut bytes, 0, length as u32);
+            }
+        }
         3 => {
             bytes.resize(65_540, 0);
             set(&mut bytes, 0, 65_540);
@@ -259,8 +265,12 @@ fn wrong_kinds(rng: &mut Rng, sections: &mut Vec<Section>) -> Vec<u8> {
     assemble(sections)
 }
 
-/// 14: plan body not 28, calls body empty or not a multiple of 8.
+/// 14: plan body not 28, calls body empty or not a multiple of 8; a call may be
+/// bad too.
 fn wrong_bodies(rng: &mut Rng, sections: &mut [Section]) -> Vec<u8> {
+    if rng.chance(30) {
+        spoil_call(rng, sections);
+    }
     match rng.below(4) {
         0 => body_of(sections, 1).truncate(4 * rng.below(7) as usize),
         1 => body_of(sections, 1).extend([0; 4]),
@@ -278,13 +288,17 @@ fn wrong_calls(rng: &mut Rng, sections: &mut [Section]) -> Vec<u8> {
     if rng.chance(30) {
         wrong_plan(rng, sections);
     }
+    spoil_call(rng, sections);
+    assemble(sections)
+}
+
+fn spoil_call(rng: &mut Rng, sections: &mut [Section]) {
     let calls = body_of(sections, 2);
     let at = 2 * rng.below(calls.len() as u64 / 8) as usize;
     let bad = [(0, 0), (8, 0), (u32::MAX, 1), (1, 3), (7, 1), (1, 1 << 31)];
     let (code, number) = rng.pick(&bad);
     set(calls, at, code);
     set(calls, at + 1, number);
-    assemble(sections)
 }
 
 /// 1, 17, 18 or 2: puts a plan with faults in place of the sound one; answers

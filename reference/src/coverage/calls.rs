@@ -59,8 +59,6 @@ const REFUSED: &[&str] = &[
     "use 4, one unit too many",
     "use 5 by one unit",
     "use 3 before 4",
-    "use 4 before 5",
-    "use 5 before 6",
     "top-up 7, no points",
     "top-up 7, one point too many",
     "top-up 7 before 8",
@@ -77,6 +75,8 @@ pub const OF_LISTS: &[&[&str]] = &[REGISTERED.as_flattened(), PLACED, REFUSED];
 pub const OF_ARGUMENTS: &[&[&str]] = &[
     &FULL,
     &[
+        "use 4 before 5",
+        "use 5 before 6",
         "use 4, n beyond a word",
         "use 4, the last number",
         "top-up 7, points beyond a word",

@@ -98,6 +98,13 @@ impl Coverage {
         }
     }
 
+    /// The counts of all but some events.
+    pub fn without(&self, events: &[&'static str]) -> Coverage {
+        let mut counts = self.counts.clone();
+        counts.retain(|event, _| !events.contains(event));
+        Coverage { counts }
+    }
+
     pub fn count(&self, event: &str) -> u64 {
         self.counts.get(event).copied().unwrap_or(0)
     }

@@ -43,7 +43,9 @@ impl Differ {
             self.times.accounts += begun.elapsed();
             tried.map_err(|what| Mismatch::of_account(what, &*account))?;
             self.accounts += 1;
-            self.add(&events);
+            for (coverage, events) in self.of_accounts.iter_mut().zip(&events) {
+                coverage.add(events);
+            }
         }
         Ok(())
     }

@@ -106,10 +106,6 @@ impl Lent {
         }
     }
 
-    pub fn set(&mut self, account: &Numbers) {
-        self.numbers_mut().copy_from_slice(account);
-    }
-
     pub fn numbers(&self) -> &Numbers {
         let all = &self.memory[MARGIN..][..ACCOUNT_NUMBERS];
         all.try_into().expect("as many numbers")

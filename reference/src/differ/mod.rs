@@ -12,7 +12,7 @@ mod writes;
 pub use writes::LAST_DAY;
 
 use crate::check::{check_pairs, Failure};
-use crate::coverage::{Coverage, TripEvents};
+use crate::coverage::{list_events, Coverage, TripEvents};
 use crate::generate::{self, Case};
 use crate::numbers::Numbers;
 use crate::rng::Rng;
@@ -78,6 +78,8 @@ pub struct Differ {
     other: Side,
     /// What each side's own returns, answers and accounts came to.
     coverage: [Coverage; 2],
+    /// The same on accounts that no list led to.
+    of_accounts: [Coverage; 2],
     pub trips: u64,
     pub files: u64,
     /// Writes: of what was read, and random ones.
@@ -102,6 +104,7 @@ impl Differ {
         Differ {
             other,
             coverage: [Coverage::new(), Coverage::new()],
+            of_accounts: [Coverage::new(), Coverage::new()],
             trips: 0,
             files: 0,
             writes: 0,
@@ -115,9 +118,14 @@ impl Differ {
         }
     }
 
-    /// The events that both sides came to.
+    /// The events that both sides came to. Those of lists must come from lists
+    /// and files: what an account of any numbers led to does not count there.
     pub fn coverage(&self) -> Coverage {
-        self.coverage[0].common(&self.coverage[1])
+        let [ours, theirs] = &self.coverage;
+        let mut all = ours.common(theirs);
+        let [ours, theirs] = &self.of_accounts;
+        all.merge(&ours.common(theirs).without(&list_events()));
+        all
     }
 
     fn add(&mut self, events: &Both) {
