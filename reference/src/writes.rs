@@ -43,7 +43,7 @@ impl WriteCase {
 
     /// A random write. The plan is bad in two of five cases, and each of the
     /// other reasons is there in one of five, so that all sets of them arise;
-    /// the first in 01's order counts. In two of a hundred the arguments are
+    /// the first in 01's order counts. In one of twenty the arguments are
     /// of no write, which comes before all reasons.
     pub fn random(rng: &mut Rng) -> WriteCase {
         let mut plan = any_plan(rng).to_words().map(u64::from).to_vec();
@@ -66,7 +66,7 @@ impl WriteCase {
             (plan, expected) = (words.to_vec(), u64::from(number));
         }
         let mut answer = WRITE_NUMBERS + rng.below(3) as usize;
-        match rng.below(150) {
+        match rng.below(60) {
             0 => answer = 0,
             1 => drop(plan.pop()),
             2 => plan.push(0),

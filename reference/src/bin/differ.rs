@@ -1,9 +1,9 @@
-//! differ [--seed S] [--trips N] [--damaged N] [--accounts N] [--seconds T]:
-//! random trips call by call, files sound and damaged, as many random writes as
-//! files, and accounts of any numbers, through the proved meter and this
-//! crate's; then the caps of every day up to 4,000 and of larger numbers. Ends
-//! with 1 if they disagree or if demand 3 fails, with 3 if an event was missed,
-//! and with 2 if the proved library is missing.
+//! differ [--seed S] [--trips N] [--damaged N] [--accounts N] [--seconds T]: the
+//! caps of every day up to 4,000 and of larger numbers, random trips call by
+//! call, files sound and damaged, as many random writes as files, and accounts
+//! of any numbers, through the proved meter and this crate's. Ends with 1 if
+//! they disagree or if demand 3 fails, with 3 if an event was missed, and with 2
+//! if the proved library is missing.
 
 use reference::coverage::events;
 use reference::differ::{Differ, Mismatch};
@@ -138,9 +138,11 @@ fn counts(differ: &Differ) -> String {
 /// Where a mismatch was found, its seed, and the mismatch.
 type Found = (String, u64, Box<Mismatch>);
 
-/// A trip, a file, a write and accounts from each seed in turn; then the days.
+/// The days; then a trip, a file, a write and accounts from each seed in turn.
 fn run(differ: &mut Differ, seed: u64, goal: &Goal) -> Result<(), Found> {
     let (begun, mut shown) = (Instant::now(), Instant::now());
+    let found = |mismatch| (format!("seed {seed}, days"), seed, mismatch);
+    differ.days(seed).map_err(found)?;
     for at in seed.. {
         let more = differ.trips < goal.trips
             || differ.files < goal.files
@@ -156,8 +158,7 @@ fn run(differ: &mut Differ, seed: u64, goal: &Goal) -> Result<(), Found> {
             eprintln!("differ: {}, {past} s", counts(differ));
         }
     }
-    let found = |mismatch| (format!("seed {seed}, days"), seed, mismatch);
-    differ.days(seed).map_err(found)
+    Ok(())
 }
 
 fn one_seed(

@@ -2,7 +2,7 @@
 //! on each of them.
 
 use super::both::{Given, ROOM};
-use super::calls::{odd_step, Run};
+use super::calls::{odd_step, other_count, Run};
 use super::{Both, Differ, Mismatch, ACCOUNTS_OF_A_SEED};
 use crate::accounts::{at_edge, made, other_number, random, reached};
 use crate::check::Failure;
@@ -99,8 +99,8 @@ impl Differ {
         rng: &mut Rng,
         events: &mut Both,
     ) -> Result<(), Failure> {
-        let (given, _) =
-            self.ask_account(account, 0, 0, |side, account, _| (side.is_sound)(account))?;
+        let asked = self.ask_account(account, 0, 0, |side, account, _| (side.is_sound)(account));
+        let (given, _) = asked.map_err(|what| format!("IsSound {what}"))?;
         for (events, given) in events.iter_mut().zip(given) {
             events.sound(account, given.returned)?;
         }
@@ -173,7 +173,7 @@ impl Differ {
         events: &mut Both,
     ) -> Result<(), Failure> {
         if rng.chance(20) {
-            let count = super::calls::other_count(rng);
+            let count = other_count(rng);
             let given = self.ask_counted(account, count, ROOM, |side, account, _| {
                 (side.is_sound)(account)
             })?;

@@ -119,8 +119,8 @@ impl Differ {
         events: &mut Both,
     ) -> Result<Run, Failure> {
         let before: Numbers = [rng.word(); ACCOUNT_NUMBERS];
-        let (given, [ours, theirs]) =
-            self.ask_account(&before, 0, 0, |side, account, _| (side.open)(account, plan))?;
+        let opened = self.ask_account(&before, 0, 0, |side, account, _| (side.open)(account, plan));
+        let (given, [ours, theirs]) = opened.map_err(|what| format!("Open: {what}"))?;
         for (events, given) in events.iter_mut().zip(given) {
             events.returned(Function::Open, given.returned)?;
         }
