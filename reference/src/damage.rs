@@ -60,7 +60,7 @@ pub fn resum(bytes: &mut [u8]) {
 pub fn sample(rng: &mut Rng) -> Sample {
     let plan = any_plan(rng);
     let mut sections = sound_sections(rng, &plan);
-    let (bytes, expected) = match rng.below(12) {
+    let (bytes, expected) = match rng.below(25) / 2 {
         0 => (assemble(&sections), Some(0)),
         1 => (wrong_length(rng, assemble(&sections)), Some(10)),
         2 => (wrong_sum(rng, assemble(&sections)), Some(11)),
@@ -73,7 +73,8 @@ pub fn sample(rng: &mut Rng) -> Sample {
             (assemble(&sections), Some(number))
         }
         10 => (scrambled(rng, assemble(&sections)), None),
-        _ => (changed_word(rng, assemble(&sections)), None),
+        11 => (changed_word(rng, assemble(&sections)), None),
+        _ => (noise(rng), None),
     };
     Sample { bytes, expected }
 }
@@ -327,6 +328,19 @@ fn changed_word(rng: &mut Rng, mut bytes: Vec<u8>) -> Vec<u8> {
     let old = get(&bytes, index);
     let by = rng.pick(&[1, 4, 8, u32::MAX, 0u32.wrapping_sub(4), 1 << 31]);
     set(&mut bytes, index, old.wrapping_add(by));
+    resum(&mut bytes);
+    bytes
+}
+
+/// Random words behind a right length, sum and, at times, count.
+fn noise(rng: &mut Rng) -> Vec<u8> {
+    let count = rng.between(3, 40);
+    let mut words: Vec<u32> = (0..count).map(|_| rng.word() as u32).collect();
+    words[0] = 4 * count as u32;
+    if rng.chance(70) {
+        words[2] = rng.between(1, 9) as u32;
+    }
+    let mut bytes = to_bytes(&words);
     resum(&mut bytes);
     bytes
 }

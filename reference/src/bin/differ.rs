@@ -3,13 +3,15 @@
 //! call, files sound and damaged, as many random writes as files, and accounts
 //! of any numbers, through the proved meter and this crate's. Ends with 1 if
 //! they disagree or if demand 3 fails, with 3 if an event was missed, and with 2
-//! if the proved library is missing.
+//! if the proved library is missing. The processors share the work.
 
 use reference::coverage::events;
-use reference::differ::{Differ, Mismatch};
+use reference::differ::{Differ, Mismatch, ACCOUNTS_OF_A_SEED};
 use reference::planted::{chosen, Wrong};
-use reference::sides::proved;
+use reference::sides::{proved, Side};
 use std::process::ExitCode;
+use std::sync::atomic::{AtomicBool, AtomicU64, Ordering};
+use std::thread;
 use std::time::{Duration, Instant};
 
 const TRIPS: u64 = 20_000;
@@ -45,8 +47,10 @@ fn options() -> Option<Options> {
     Some(options)
 }
 
-/// How much of each there is to be.
+/// How many seeds there are for trips, for files and for accounts, from the
+/// first one on, and for how long.
 struct Goal {
+    seed: u64,
     trips: u64,
     files: u64,
     accounts: u64,
@@ -63,11 +67,16 @@ impl Goal {
             asked.unwrap_or(usual)
         };
         Goal {
+            seed: options.seed.unwrap_or(1),
             trips: goal(options.trips, TRIPS),
             files: goal(options.damaged, FILES),
-            accounts: goal(options.accounts, ACCOUNTS),
+            accounts: goal(options.accounts, ACCOUNTS).div_ceil(ACCOUNTS_OF_A_SEED),
             time: options.seconds.map(Duration::from_secs),
         }
+    }
+
+    fn seeds(&self) -> u64 {
+        self.trips.max(self.files).max(self.accounts)
     }
 }
 
@@ -84,18 +93,17 @@ fn main() -> ExitCode {
         let all = Wrong::ALL.len();
         eprintln!("differ: wrong rule {} of {all}, {rule:?}", rule as u32);
     }
-    let seed = options.seed.unwrap_or(1);
-    let mut differ = Differ::new(other);
+    let goal = Goal::of(&options);
     let begun = Instant::now();
-    let outcome = run(&mut differ, seed, &Goal::of(&options));
+    let (differ, found) = run(other, &goal);
     let took = begun.elapsed();
-    if let Err((place, at, mismatch)) = outcome {
-        report(&place, at, &mismatch);
+    if let Some(found) = found {
+        report(&found);
         print_times(&differ, took);
         println!("differ: {}, 1 mismatch", counts(&differ));
         return ExitCode::FAILURE;
     }
-    let missing = print_events(&differ, seed);
+    let missing = print_events(&differ, goal.seed);
     print_times(&differ, took);
     println!("differ: {}, 0 mismatches", counts(&differ));
     if missing == 0 {
@@ -135,53 +143,127 @@ fn counts(differ: &Differ) -> String {
     )
 }
 
-/// Where a mismatch was found, its seed, and the mismatch.
-type Found = (String, u64, Box<Mismatch>);
-
-/// The days; then a trip, a file, a write and accounts from each seed in turn.
-fn run(differ: &mut Differ, seed: u64, goal: &Goal) -> Result<(), Found> {
-    let (begun, mut shown) = (Instant::now(), Instant::now());
-    let found = |mismatch| (format!("seed {seed}, days"), seed, mismatch);
-    differ.days(seed).map_err(found)?;
-    for at in seed.. {
-        let more = differ.trips < goal.trips
-            || differ.files < goal.files
-            || differ.accounts < goal.accounts;
-        if !more || goal.time.is_some_and(|time| begun.elapsed() >= time) {
-            break;
-        }
-        one_seed(differ, at, goal)
-            .map_err(|(what, mismatch)| (format!("seed {at}, {what}"), at, mismatch))?;
-        if shown.elapsed() >= PROGRESS {
-            shown = Instant::now();
-            let past = begun.elapsed().as_secs();
-            eprintln!("differ: {}, {past} s", counts(differ));
-        }
-    }
-    Ok(())
+/// A mismatch, its seed, and what it was found in.
+struct Found {
+    seed: u64,
+    what: &'static str,
+    mismatch: Box<Mismatch>,
 }
 
+/// What the workers share: the next seed, counted from 0, and whether one of
+/// them has found a mismatch.
+struct Shared<'a> {
+    other: Side,
+    goal: &'a Goal,
+    begun: Instant,
+    next: AtomicU64,
+    over: AtomicBool,
+}
+
+/// The days; then a trip, a file, a write and accounts from each seed, shared
+/// out among the processors. Answers all that was done, and the mismatch of the
+/// first seed that has one.
+fn run(other: Side, goal: &Goal) -> (Differ, Option<Found>) {
+    let mut all = Differ::new(other);
+    if let Err(mismatch) = all.days(goal.seed) {
+        let (seed, what) = (goal.seed, "days");
+        return (
+            all,
+            Some(Found {
+                seed,
+                what,
+                mismatch,
+            }),
+        );
+    }
+    let shared = Shared {
+        other,
+        goal,
+        begun: Instant::now(),
+        next: AtomicU64::new(0),
+        over: AtomicBool::new(false),
+    };
+    let workers = thread::available_parallelism().map_or(1, usize::from);
+    let mut first: Option<Found> = None;
+    thread::scope(|scope| {
+        let shared = &shared;
+        let start = |worker| scope.spawn(move || some_seeds(shared, worker == 0));
+        let started: Vec<_> = (0..workers).map(start).collect();
+        for worker in started {
+            let (differ, found) = worker.join().expect("a comparison does not panic");
+            all.merge(&differ);
+            let earlier = |found: &Found| first.as_ref().is_none_or(|one| found.seed < one.seed);
+            if found.as_ref().is_some_and(earlier) {
+                first = found;
+            }
+        }
+    });
+    (all, first)
+}
+
+/// One worker: takes the next seed while there is one. The first also tells how
+/// far all have come.
+fn some_seeds(shared: &Shared, tells: bool) -> (Differ, Option<Found>) {
+    let mut differ = Differ::new(shared.other);
+    let mut shown = Instant::now();
+    loop {
+        let done = shared.next.fetch_add(1, Ordering::Relaxed);
+        let late = |time: Duration| shared.begun.elapsed() >= time;
+        let ends = done >= shared.goal.seeds() || shared.goal.time.is_some_and(late);
+        if ends || shared.over.load(Ordering::Relaxed) {
+            return (differ, None);
+        }
+        if let Err((what, mismatch)) = one_seed(&mut differ, done, shared.goal) {
+            shared.over.store(true, Ordering::Relaxed);
+            let seed = shared.goal.seed + done;
+            return (
+                differ,
+                Some(Found {
+                    seed,
+                    what,
+                    mismatch,
+                }),
+            );
+        }
+        if tells && shown.elapsed() >= PROGRESS {
+            shown = Instant::now();
+            let past = shared.begun.elapsed().as_secs();
+            eprintln!(
+                "differ: {done} seeds, {past} s; one worker: {}",
+                counts(&differ)
+            );
+        }
+    }
+}
+
+/// What there is of a seed, which is the first one and so many more.
 fn one_seed(
     differ: &mut Differ,
-    at: u64,
+    done: u64,
     goal: &Goal,
 ) -> Result<(), (&'static str, Box<Mismatch>)> {
-    if differ.trips < goal.trips {
-        differ.trip(at).map_err(|found| ("trip", found))?;
+    let seed = goal.seed + done;
+    if done < goal.trips {
+        differ.trip(seed).map_err(|found| ("trip", found))?;
     }
-    if differ.files < goal.files {
-        differ.file(at).map_err(|found| ("file", found))?;
-        differ.write(at).map_err(|found| ("write", found))?;
+    if done < goal.files {
+        differ.file(seed).map_err(|found| ("file", found))?;
+        differ.write(seed).map_err(|found| ("write", found))?;
     }
-    if differ.accounts < goal.accounts {
-        differ.accounts(at).map_err(|found| ("account", found))?;
+    if done < goal.accounts {
+        differ.accounts(seed).map_err(|found| ("account", found))?;
     }
     Ok(())
 }
 
 /// Shows a mismatch, and saves its file, if it has one.
-fn report(place: &str, seed: u64, mismatch: &Mismatch) {
-    println!("{place}: {}", mismatch.what);
+fn report(found: &Found) {
+    let Found {
+        seed,
+        what,
+        mismatch,
+    } = found;
+    println!("seed {seed}, {what}: {}", mismatch.what);
     let numbers = mismatch.account.iter().enumerate();
     let some: Vec<String> = numbers
         .filter(|(_, number)| **number != 0)

@@ -67,9 +67,6 @@ impl Differ {
                 let place = (turn % ACCOUNT_NUMBERS as u64) as usize;
                 account[place] = other_number(rng, account[place]);
                 self.changed.insert(place);
-                if self.changed.len() == ACCOUNT_NUMBERS {
-                    events.iter_mut().for_each(TripEvents::every_number_changed);
-                }
             }
             6 => {
                 for _ in 0..2 {

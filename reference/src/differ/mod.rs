@@ -14,7 +14,7 @@ pub use writes::LAST_DAY;
 use crate::check::{check_pairs, Failure};
 use crate::coverage::{list_events, Coverage, TripEvents};
 use crate::generate::{self, Case};
-use crate::numbers::Numbers;
+use crate::numbers::{Numbers, ACCOUNT_NUMBERS};
 use crate::rng::Rng;
 use crate::sides::Side;
 use std::collections::BTreeSet;
@@ -67,6 +67,17 @@ pub struct Times {
     pub files: Duration,
     pub writes: Duration,
     pub accounts: Duration,
+}
+
+impl Times {
+    fn add(&mut self, other: &Times) {
+        self.generation += other.generation;
+        self.trips += other.trips;
+        self.pairs += other.pairs;
+        self.files += other.files;
+        self.writes += other.writes;
+        self.accounts += other.accounts;
+    }
 }
 
 /// The events of both sides, this crate's meter first.
@@ -125,6 +136,11 @@ impl Differ {
         let mut all = ours.common(theirs);
         let [ours, theirs] = &self.of_accounts;
         all.merge(&ours.common(theirs).without(&list_events()));
+        if self.changed.len() == ACCOUNT_NUMBERS {
+            let mut events = TripEvents::default();
+            events.every_number_changed();
+            all.add(&events);
+        }
         all
     }
 
@@ -134,9 +150,28 @@ impl Differ {
         }
     }
 
+    /// Adds what another run has done.
+    pub fn merge(&mut self, other: &Differ) {
+        for (coverage, more) in self.coverage.iter_mut().zip(&other.coverage) {
+            coverage.merge(more);
+        }
+        for (coverage, more) in self.of_accounts.iter_mut().zip(&other.of_accounts) {
+            coverage.merge(more);
+        }
+        self.trips += other.trips;
+        self.files += other.files;
+        self.writes += other.writes;
+        self.accounts += other.accounts;
+        self.days += other.days;
+        self.calls += other.calls;
+        self.longest = self.longest.max(other.longest);
+        self.times.add(&other.times);
+        self.changed.extend(&other.changed);
+    }
+
     /// The random trip of a seed: its calls one at a time, and its file as a
-    /// whole. A list that no file can hold, as the empty one, is no trip, but
-    /// is run call by call too, and goes through demand 3.
+    /// whole. A list that no file can hold, as the empty one, is run call by
+    /// call alone, and always goes through demand 3.
     pub fn trip(&mut self, seed: u64) -> Result<(), Box<Mismatch>> {
         let begun = Instant::now();
         let case = generate::trip(seed);
@@ -144,8 +179,8 @@ impl Differ {
         self.times.generation += begun.elapsed();
         let mut rng = Rng::new(seed ^ 0x7121_9000);
         let mut events = Both::default();
-        let paired = file.is_none() || self.trips.is_multiple_of(PAIRS_EVERY);
-        self.trips += u64::from(file.is_some());
+        let paired = file.is_none() || seed.is_multiple_of(PAIRS_EVERY);
+        self.trips += 1;
         let begun = Instant::now();
         let whole = self.trip_of(&case, file.as_deref(), &mut rng, &mut events);
         self.times.trips += begun.elapsed();
