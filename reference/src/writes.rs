@@ -65,13 +65,7 @@ impl WriteCase {
             let (words, number) = bad_plan(rng, &WIDE);
             (plan, expected) = (words.to_vec(), u64::from(number));
         }
-        let mut answer = WRITE_NUMBERS + rng.below(3) as usize;
-        match rng.below(60) {
-            0 => answer = 0,
-            1 => drop(plan.pop()),
-            2 => plan.push(0),
-            _ => {}
-        }
+        let answer = no_write(rng, &mut plan);
         if answer == 0 || plan.len() != PLAN_NUMBERS {
             expected = BAD_ARGUMENT;
         }
@@ -114,6 +108,18 @@ impl WriteCase {
             self.buffer.len()
         )
     }
+}
+
+/// At times arguments of no write: another count of the plan's numbers, or no
+/// room for the answer. Answers how many numbers are lent for it.
+fn no_write(rng: &mut Rng, plan: &mut Vec<u64>) -> usize {
+    match rng.below(60) {
+        0 => return 0,
+        1 => drop(plan.pop()),
+        2 => plan.push(0),
+        _ => {}
+    }
+    WRITE_NUMBERS + rng.below(3) as usize
 }
 
 /// The last word of 32 bits, the first number above it, and the last number.

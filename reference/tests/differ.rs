@@ -2,7 +2,8 @@
 //! event, and the cases are what they are made for. Meters that go wrong in one
 //! point are in wrong_sides.rs.
 
-use reference::accounts::{at_edge, made, reached};
+use reference::accounts::edges::at_edge;
+use reference::accounts::{made, reached};
 use reference::coverage::returns::Function;
 use reference::coverage::soundness::{broken, Condition};
 use reference::coverage::{events, list_events, Coverage, TripEvents};

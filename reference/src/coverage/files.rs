@@ -206,7 +206,7 @@ impl TripEvents {
         let left = bytes.checked_sub(position);
         if returned == ACCEPTED {
             self.hit("call at the start", position == 0);
-            self.hit("call between two calls", position % 8 != 0);
+            self.hit("call between two calls", !position.is_multiple_of(8));
             self.hit("call at the last 8 bytes", left == Some(8));
         }
         if returned == END {

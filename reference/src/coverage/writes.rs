@@ -2,7 +2,6 @@
 
 use super::returns::Function;
 use super::TripEvents;
-use crate::faults::faults_of;
 use crate::sides::{ACCEPTED, BAD_ARGUMENT};
 use crate::tripfile::{BEFORE_CALLS, MAX_CALLS};
 use crate::writes::WriteCase;
@@ -71,7 +70,6 @@ impl TripEvents {
         let calls = !counts && case.has_wrong_call();
         let short = case.buffer.len() < BEFORE_CALLS + 8 * case.codes.len();
         if let Some(place) = [1, 17, 18, 2].iter().position(|told| *told == returned) {
-            debug_assert!(!faults_of(words).is_empty());
             self.hit(PLAN_FIRST[0][place], counts);
             self.hit(PLAN_FIRST[1][place], calls);
             self.hit(PLAN_FIRST[2][place], !counts && !calls && short);
@@ -85,16 +83,18 @@ impl TripEvents {
                 self.hit("write 16, one byte too short", one);
                 self.hit("write 16, no buffer", case.buffer.is_empty());
             }
-            ACCEPTED => {
-                let exact = case.buffer.len() == BEFORE_CALLS + 8 * case.codes.len();
-                self.hit("write accepted, just enough room", exact);
-                self.hit("write accepted, more room", !exact);
-                let most = case.codes.len() == MAX_CALLS;
-                self.hit("write accepted, as many calls as a file holds", most);
-            }
+            ACCEPTED => self.written(case),
             _ => {}
         }
         Ok(())
+    }
+
+    fn written(&mut self, case: &WriteCase) {
+        let exact = case.buffer.len() == BEFORE_CALLS + 8 * case.codes.len();
+        self.hit("write accepted, just enough room", exact);
+        self.hit("write accepted, more room", !exact);
+        let most = case.codes.len() == MAX_CALLS;
+        self.hit("write accepted, as many calls as a file holds", most);
     }
 
     fn wrong_count(&mut self, case: &WriteCase, short: bool) {

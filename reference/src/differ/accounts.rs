@@ -4,7 +4,8 @@
 use super::both::{Given, ROOM};
 use super::calls::{odd_step, other_count, Run};
 use super::{Both, Differ, Mismatch, ACCOUNTS_OF_A_SEED};
-use crate::accounts::{at_edge, made, other_number, random, reached};
+use crate::accounts::edges::at_edge;
+use crate::accounts::{made, other_number, random, reached};
 use crate::check::Failure;
 use crate::coverage::returns::Function;
 use crate::coverage::seen::{rest, Observed, Seen};
