@@ -166,7 +166,7 @@ fn start_day(rng: &mut Rng) -> u32 {
     match rng.below(4) {
         0 => 181 + rng.below(3) as u32,
         1 => rng.pick(&ROWS).0.max(182) - rng.below(2) as u32,
-        2 => rng.between(3780, 3833) as u32,
+        2 => rng.between(3780, 3840).min(3833) as u32,
         _ => rng.between(181, 3833) as u32,
     }
 }
