@@ -9,7 +9,7 @@ use crate::matching;
 use crate::meter::{Account, Answer};
 use crate::rng::Rng;
 use crate::services::State;
-use crate::sides::{Kept, Step, ACCEPTED, REFERENCE, USE_NUMBERS};
+use crate::sides::{Kept, Step, ACCEPTED, FIND_NUMBERS, READ_NUMBERS, REFERENCE, USE_NUMBERS};
 use crate::statement::{lines, statement};
 use crate::terms::{Call, Kind, Place};
 use crate::tripfile::{self, Trip, BEFORE_CALLS, CALLS_KIND, MAX_CALLS, PLAN_KIND};
@@ -265,20 +265,17 @@ fn check_file(rng: &mut Rng, events: &mut TripEvents) -> Result<(), Failure> {
     let bytes = &sample.bytes;
     let got = tripfile::read(bytes);
     let number = got.as_ref().err().copied().unwrap_or(0);
-    let returned = |number: u32| match number {
-        0 => ACCEPTED,
-        refusal => u64::from(refusal),
-    };
-    events.read(bytes, returned(number))?;
+    let mut answer = [0; READ_NUMBERS];
+    events.read(bytes, (REFERENCE.read)(bytes, &mut answer))?;
     let right = sample.expected.is_none_or(|expected| expected == number);
     demand(right, || {
         format!("file {number}, made for {:?}", sample.expected)
     })?;
     let finds = [PLAN_KIND, CALLS_KIND].map(|kind| tripfile::find(bytes, kind).err());
-    for (kind, found) in [PLAN_KIND, CALLS_KIND].into_iter().zip(finds) {
-        let length = tripfile::find(bytes, kind).map_or(0, <[u8]>::len);
-        let number = returned(found.unwrap_or(0));
-        events.find(bytes, kind, number, &[0, length as u64])?;
+    for kind in [PLAN_KIND, CALLS_KIND] {
+        let mut part = [0; FIND_NUMBERS];
+        let returned = (REFERENCE.find)(bytes, kind, &mut part);
+        events.find(bytes, kind, returned, &part)?;
     }
     let agrees = match number {
         10..=12 => finds == [Some(number); 2],

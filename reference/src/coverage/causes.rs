@@ -1,6 +1,9 @@
-//! Why a file must be declined, worked out from its bytes by 01's rules. Each
-//! function here takes for granted that those of smaller numbers found nothing.
+//! Why a file must be declined, worked out from its bytes by 01's rules, with
+//! none of the code that reads it. The functions for one number take for granted
+//! that those of smaller numbers found nothing.
 
+use crate::faults::{faults_of, first_number, Words};
+use crate::sides::ACCEPTED;
 use crate::tripfile::{CALLS_KIND, MAX_FILE, PLAN_KIND};
 
 /// Of one reason's causes, those that hold.
@@ -180,7 +183,60 @@ pub fn of_15(body: &[u8]) -> Causes {
     some(&OF_15, &holds)
 }
 
+/// The table of a file, or the number that declines it: 10, 11, 12.
+pub fn table(bytes: &[u8]) -> Result<Vec<Entry>, u64> {
+    if !of_10(bytes).is_empty() {
+        Err(10)
+    } else if is_11(bytes) {
+        Err(11)
+    } else if !of_12(bytes).is_empty() {
+        Err(12)
+    } else {
+        entries(bytes).ok_or(12)
+    }
+}
+
+/// What reading a file must return.
+pub fn of_reading(bytes: &[u8]) -> u64 {
+    let entries = match table(bytes) {
+        Ok(entries) => entries,
+        Err(number) => return number,
+    };
+    let body = |kind: u32| {
+        let entry = entries.iter().find(|entry| entry.kind == kind);
+        entry.map_or(&[][..], |entry| body(bytes, entry))
+    };
+    if !of_13(&entries).is_empty() {
+        return 13;
+    }
+    if !of_14(&entries).is_empty() {
+        return 14;
+    }
+    if !of_15(body(CALLS_KIND)).is_empty() {
+        return 15;
+    }
+    plan_words(body(PLAN_KIND)).map_or(14, |words| of_plan(&words))
+}
+
+/// What a plan of seven numbers must get.
+pub fn of_plan(words: &Words) -> u64 {
+    match first_number(&faults_of(words)) {
+        0 => ACCEPTED,
+        number => u64::from(number),
+    }
+}
+
+/// What finding a section must return, and its answer where it is found.
+pub fn of_finding(bytes: &[u8], kind: u32) -> Result<[u64; 2], u64> {
+    let entries = table(bytes)?;
+    let mut found = entries.iter().filter(|entry| entry.kind == kind);
+    match (found.next(), found.next()) {
+        (Some(entry), None) => Ok([entry.start, entry.length].map(u64::from)),
+        _ => Err(13),
+    }
+}
+
 /// The seven words of a plan's body, if it has as many.
-pub fn plan_words(body: &[u8]) -> Option<[u64; 7]> {
+pub fn plan_words(body: &[u8]) -> Option<Words> {
     (body.len() == 28).then(|| std::array::from_fn(|i| u64::from(word(body, i))))
 }

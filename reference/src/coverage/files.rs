@@ -78,9 +78,14 @@ fn alone(causes: &Causes) -> Option<&'static str> {
 }
 
 impl TripEvents {
-    /// What reading a file returned.
+    /// What reading a file returned. That it should have returned something
+    /// else by the causes is a failure.
     pub fn read(&mut self, bytes: &[u8], returned: u64) -> Result<(), String> {
         self.returned(Function::Read, returned)?;
+        let wanted = causes::of_reading(bytes);
+        if returned != BAD_ARGUMENT && returned != wanted {
+            return Err(format!("Read returned {returned}, by its causes {wanted}"));
+        }
         if returned == 10 {
             self.caused(&causes::of_10(bytes));
             self.hit("read 10 before 11", causes::is_11(bytes));
@@ -101,7 +106,7 @@ impl TripEvents {
             let wrong = |entries: &Vec<Entry>| !causes::of_13(entries).is_empty();
             self.hit("read 12 before 13", entries.as_ref().is_some_and(wrong));
         } else if let Some(entries) = entries {
-            self.read_bodies(bytes, &entries, returned);
+            self.read_bodies(bytes, &entries, returned)?;
         }
         Ok(())
     }
@@ -113,7 +118,12 @@ impl TripEvents {
     }
 
     /// A file with a right table.
-    fn read_bodies(&mut self, bytes: &[u8], entries: &[Entry], returned: u64) {
+    fn read_bodies(
+        &mut self,
+        bytes: &[u8],
+        entries: &[Entry],
+        returned: u64,
+    ) -> Result<(), String> {
         let sizes = causes::of_14(entries);
         let of_kind = |kind: u32| entries.iter().find(|entry| entry.kind == kind);
         let body = |kind: u32| of_kind(kind).map_or(&[][..], |entry| causes::body(bytes, entry));
@@ -129,20 +139,21 @@ impl TripEvents {
             }
             _ => {
                 let Some(words) = causes::plan_words(body(PLAN_KIND)) else {
-                    return;
+                    return Ok(());
                 };
                 if returned == 15 {
                     self.caused(&calls);
                     let faults = crate::faults::faults_of(&words);
                     self.hit("read 15 before the plan's numbers", !faults.is_empty());
                 } else {
-                    self.plan(Function::Read, &words, returned);
+                    self.plan(Function::Read, &words, returned)?;
                 }
                 if returned == ACCEPTED {
                     self.read_whole(bytes, entries);
                 }
             }
         }
+        Ok(())
     }
 
     /// A file that was read.
@@ -165,7 +176,7 @@ impl TripEvents {
         self.hit("read accepted, the largest file", largest);
     }
 
-    /// What finding a section returned, and its answer.
+    /// What finding a section returned, and its answer; likewise.
     pub fn find(
         &mut self,
         bytes: &[u8],
@@ -174,6 +185,15 @@ impl TripEvents {
         answer: &[u64],
     ) -> Result<(), String> {
         self.returned(Function::Find, returned)?;
+        let right = match causes::of_finding(bytes, kind) {
+            Ok(part) => returned == ACCEPTED && answer[..2] == part,
+            Err(number) => returned == number,
+        };
+        if !right && returned != BAD_ARGUMENT {
+            return Err(format!(
+                "Find of kind {kind} returned {returned}, by its causes not"
+            ));
+        }
         if returned == ACCEPTED {
             self.hit("find accepted, plan", kind == PLAN_KIND);
             self.hit("find accepted, calls", kind == CALLS_KIND);
@@ -183,9 +203,14 @@ impl TripEvents {
             self.hit("find accepted, another kind", another);
             self.hit("find accepted, an empty section", answer[1] == 0);
         }
-        if returned != 13 {
-            return Ok(());
+        if returned == 13 {
+            self.not_found(bytes, kind);
         }
+        Ok(())
+    }
+
+    /// A section that is not there just once.
+    fn not_found(&mut self, bytes: &[u8], kind: u32) {
         let entries = causes::entries(bytes).unwrap_or_default();
         let there = entries.iter().any(|entry| entry.kind == kind);
         let event = match (kind, there) {
@@ -197,13 +222,19 @@ impl TripEvents {
             (_, true) => "find 13, another kind twice",
         };
         self.hit(event, true);
-        Ok(())
     }
 
-    /// What the reader of calls returned at a position of a section.
+    /// What the reader of calls returned at a position of a section; likewise.
     pub fn call_at(&mut self, bytes: usize, position: usize, returned: u64) -> Result<(), String> {
         self.returned(Function::Call, returned)?;
         let left = bytes.checked_sub(position);
+        let wanted = match left {
+            Some(8..) => ACCEPTED,
+            _ => END,
+        };
+        if returned != BAD_ARGUMENT && returned != wanted {
+            return Err(format!("Call returned {returned} at {position} of {bytes}"));
+        }
         if returned == ACCEPTED {
             self.hit("call at the start", position == 0);
             self.hit("call between two calls", !position.is_multiple_of(8));

@@ -1,6 +1,7 @@
 //! Events of plans: their faults one by one and two at once, told by Open, by
 //! reading and by writing (02, 4/13), and plans at their limits.
 
+use super::causes::of_plan;
 use super::returns::Function;
 use super::TripEvents;
 use crate::faults::{faults_of, unused_too_large, Fault, Sort, Words, PAIRS};
@@ -142,7 +143,7 @@ impl TripEvents {
     pub fn open(&mut self, plan: &[u64], returned: u64) -> Result<(), String> {
         self.returned(Function::Open, returned)?;
         match <&Words>::try_from(plan) {
-            Ok(words) => self.plan(Function::Open, words, returned),
+            Ok(words) => self.plan(Function::Open, words, returned)?,
             Err(_) => {
                 let declined = returned == BAD_ARGUMENT;
                 self.hit("open, plan of six numbers", declined && plan.len() == 6);
@@ -152,8 +153,15 @@ impl TripEvents {
         Ok(())
     }
 
-    /// A plan that a function was given, and what it returned.
-    pub fn plan(&mut self, function: Function, words: &Words, returned: u64) {
+    /// A plan that a function was given, and what it returned. Another number
+    /// of a plan than that of its faults is a failure.
+    pub fn plan(&mut self, function: Function, words: &Words, returned: u64) -> Result<(), String> {
+        let wanted = of_plan(words);
+        if wanted != ACCEPTED && returned != wanted {
+            return Err(format!(
+                "{function:?} returned {returned} for a plan of {wanted}"
+            ));
+        }
         let (names, beyond) = match function {
             Function::Open => (&OPEN, Some(&BEYOND_OPENED)),
             Function::Write => (&WRITE, Some(&BEYOND_WRITTEN)),
@@ -161,7 +169,7 @@ impl TripEvents {
         };
         if returned == ACCEPTED {
             self.limits(names, words);
-            return;
+            return Ok(());
         }
         let faults = faults_of(words);
         if let [fault] = faults[..] {
@@ -181,6 +189,7 @@ impl TripEvents {
             let told = returned == u64::from(PAIRS[pair].0.number());
             self.hit(names.two[pair], told);
         }
+        Ok(())
     }
 
     /// A plan that was accepted.

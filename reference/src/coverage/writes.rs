@@ -53,9 +53,14 @@ const OTHERS: &[&str] = &[
 pub const EVENTS: &[&[&str]] = &[PLAN_FIRST.as_flattened(), OTHERS];
 
 impl TripEvents {
-    /// A write, and what the writer returned.
+    /// A write, and what the writer returned. Anything but what it was made for
+    /// is a failure.
     pub fn write(&mut self, case: &WriteCase, returned: u64) -> Result<(), String> {
         self.returned(Function::Write, returned)?;
+        let expected = case.expected;
+        if returned != expected {
+            return Err(format!("write returned {returned}, made for {expected}"));
+        }
         if returned == BAD_ARGUMENT {
             self.hit("write, plan of six numbers", case.plan.len() == 6);
             self.hit("write, plan of eight numbers", case.plan.len() == 8);
@@ -65,7 +70,7 @@ impl TripEvents {
         let Ok(words) = case.plan[..].try_into() else {
             return Ok(());
         };
-        self.plan(Function::Write, words, returned);
+        self.plan(Function::Write, words, returned)?;
         let counts = case.has_wrong_count();
         let calls = !counts && case.has_wrong_call();
         let short = case.buffer.len() < BEFORE_CALLS + 8 * case.codes.len();
