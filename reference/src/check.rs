@@ -8,7 +8,7 @@ use crate::matching;
 use crate::meter::{Account, Answer};
 use crate::rng::Rng;
 use crate::services::State;
-use crate::sides::{REFERENCE, WRITE_REFUSED};
+use crate::sides::{ACCEPTED, REFERENCE};
 use crate::statement::{lines, statement};
 use crate::terms::{Call, Kind};
 use crate::tripfile::{self, Trip, BEFORE_CALLS, CALLS_KIND, MAX_CALLS, PLAN_KIND};
@@ -283,18 +283,21 @@ fn check_file(rng: &mut Rng, events: &mut TripEvents) -> Result<(), Failure> {
 fn check_write(rng: &mut Rng, events: &mut TripEvents) -> Result<(), Failure> {
     let case = WriteCase::random(rng);
     let mut buffer = case.buffer.clone();
-    let answer = case.run(REFERENCE.write, &mut buffer);
+    let mut bytes = [0];
+    let returned = case.run(&REFERENCE, &mut buffer, &mut bytes);
     events.write(case.expected)?;
     events.plan_of_write(&case, case.expected);
     let length = match case.expected {
         0 => BEFORE_CALLS + 8 * case.codes.len(),
         number => {
-            let right = answer == WRITE_REFUSED + u64::from(number) && buffer == case.buffer;
-            return demand(right, || format!("write {answer}, {}", case.outline()));
+            let right = returned == u64::from(number) && buffer == case.buffer && bytes == [0];
+            return demand(right, || format!("write {returned}, {}", case.outline()));
         }
     };
-    let right = answer == length as u64 && buffer[length..] == case.buffer[length..];
-    demand(right, || format!("write {answer}, {}", case.outline()))?;
+    let right = returned == ACCEPTED
+        && bytes == [length as u64]
+        && buffer[length..] == case.buffer[length..];
+    demand(right, || format!("write {returned}, {}", case.outline()))?;
     let read = tripfile::read(&buffer[..length]).map(|trip| WriteCase::again(&trip, rng));
     let same = |again: &WriteCase| {
         again.plan == case.plan && again.codes == case.codes && again.numbers == case.numbers

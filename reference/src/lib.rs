@@ -20,12 +20,12 @@ pub mod charges;
 pub mod check;
 pub mod coverage;
 pub mod damage;
-pub mod differ;
 pub mod explain;
 pub mod faults;
 pub mod generate;
 pub mod matching;
 pub mod meter;
+pub mod numbers;
 pub mod plan;
 pub mod planted;
 #[cfg(proved)]

@@ -1,109 +1,219 @@
-//! The proved meter, linked as a static library. A slice passes as its
-//! pointer, then its length, an array as its pointer.
+//! The proved meter, linked as a static library: the functions of
+//! include/meter.h. A slice passes as its pointer and its count.
 
-use crate::caps::Search;
-use crate::sides::{Found, Side};
-use crate::terms::Kind;
+use crate::sides::Side;
 
 extern "C" {
-    fn meter_statement(file: *const u8, file_len: usize, out: *mut u64, out_len: usize) -> u64;
-    fn meter_calls(
-        file: *const u8,
-        file_len: usize,
-        more: *const u8,
-        more_len: usize,
-        out: *mut u64,
-        out_len: usize,
+    fn meter_open(account: *mut u64, numbers: usize, plan: *const u64, plan_numbers: usize) -> u64;
+    fn meter_register(account: *mut u64, numbers: usize, place: u64) -> u64;
+    fn meter_use(
+        account: *mut u64,
+        numbers: usize,
+        kind: u64,
+        n: u64,
+        answer: *mut u64,
+        answer_numbers: usize,
     ) -> u64;
-    fn meter_afford(file: *const u8, file_len: usize, kind: u64, times: u64) -> u64;
-    fn meter_afford_by_value(file: *const u8, file_len: usize, kind: u64, times: u64) -> u64;
+    fn meter_top_up(account: *mut u64, numbers: usize, points: u64) -> u64;
+    fn meter_next_day(account: *mut u64, numbers: usize) -> u64;
+    fn meter_afford(
+        account: *const u64,
+        numbers: usize,
+        kind: u64,
+        answer: *mut u64,
+        answer_numbers: usize,
+    ) -> u64;
+    fn meter_is_sound(account: *const u64, numbers: usize) -> u64;
+    fn meter_run(
+        account: *mut u64,
+        numbers: usize,
+        file: *const u8,
+        file_bytes: usize,
+        answer: *mut u64,
+        answer_numbers: usize,
+    ) -> u64;
+    fn meter_statement(
+        file: *const u8,
+        file_bytes: usize,
+        answer: *mut u64,
+        answer_numbers: usize,
+    ) -> u64;
+    fn meter_read(
+        file: *const u8,
+        file_bytes: usize,
+        answer: *mut u64,
+        answer_numbers: usize,
+    ) -> u64;
+    fn meter_find(
+        file: *const u8,
+        file_bytes: usize,
+        kind: u32,
+        answer: *mut u64,
+        answer_numbers: usize,
+    ) -> u64;
     fn meter_write(
         plan: *const u64,
+        plan_numbers: usize,
         codes: *const u32,
-        codes_len: usize,
+        code_count: usize,
         numbers: *const u32,
-        numbers_len: usize,
+        number_count: usize,
         buffer: *mut u8,
-        buffer_len: usize,
+        buffer_bytes: usize,
+        answer: *mut u64,
+        answer_numbers: usize,
     ) -> u64;
-    fn meter_find_number(file: *const u8, file_len: usize, kind: u32) -> u64;
-    fn meter_find_length(file: *const u8, file_len: usize, kind: u32) -> usize;
-    fn meter_find_sum(file: *const u8, file_len: usize, kind: u32) -> u32;
-    fn meter_caps(day: u64, out: *mut u64) -> u64;
+    fn meter_call(
+        section: *const u8,
+        section_bytes: usize,
+        position: usize,
+        answer: *mut u64,
+        answer_numbers: usize,
+    ) -> u64;
+    fn meter_caps(day: u64, answer: *mut u64, answer_numbers: usize) -> u64;
 }
 
 /// The proved meter.
 pub const SIDE: Side = Side {
-    statement,
-    write,
-    find,
-    calls,
+    open,
+    register,
+    use_units,
+    top_up,
+    next_day,
     afford,
-    afford_by_value,
-    search,
+    is_sound,
+    run,
+    statement,
+    read,
+    find,
+    write,
+    call,
+    caps,
 };
 
-pub fn statement(file: &[u8], out: &mut [u64]) -> u64 {
-    // SAFETY: both slices are whole, and the meter keeps neither.
-    unsafe { meter_statement(file.as_ptr(), file.len(), out.as_mut_ptr(), out.len()) }
-}
+// SAFETY, of every call below: each slice is valid for its count and aligned,
+// those that are written overlap no other, and the meter keeps none of them.
 
-pub fn calls(file: &[u8], more: &[u8], out: &mut [u64]) -> u64 {
-    // SAFETY: all three slices are whole, and the meter keeps none of them.
+fn open(account: &mut [u64], plan: &[u64]) -> u64 {
     unsafe {
-        meter_calls(
-            file.as_ptr(),
-            file.len(),
-            more.as_ptr(),
-            more.len(),
-            out.as_mut_ptr(),
-            out.len(),
+        meter_open(
+            account.as_mut_ptr(),
+            account.len(),
+            plan.as_ptr(),
+            plan.len(),
         )
     }
 }
 
-pub fn afford(file: &[u8], kind: Kind, times: u64) -> u64 {
-    // SAFETY: the slice is whole, and the meter does not keep it.
-    unsafe { meter_afford(file.as_ptr(), file.len(), kind as u64, times) }
+fn register(account: &mut [u64], place: u64) -> u64 {
+    unsafe { meter_register(account.as_mut_ptr(), account.len(), place) }
 }
 
-pub fn afford_by_value(file: &[u8], kind: Kind, times: u64) -> u64 {
-    // SAFETY: the slice is whole, and the meter does not keep it.
-    unsafe { meter_afford_by_value(file.as_ptr(), file.len(), kind as u64, times) }
+fn use_units(account: &mut [u64], kind: u64, n: u64, answer: &mut [u64]) -> u64 {
+    unsafe {
+        meter_use(
+            account.as_mut_ptr(),
+            account.len(),
+            kind,
+            n,
+            answer.as_mut_ptr(),
+            answer.len(),
+        )
+    }
 }
 
-pub fn write(plan: &[u64; 7], codes: &[u32], numbers: &[u32], buffer: &mut [u8]) -> u64 {
-    // SAFETY: the plan has seven words, all slices are whole, and the meter
-    // keeps none of them.
+fn top_up(account: &mut [u64], points: u64) -> u64 {
+    unsafe { meter_top_up(account.as_mut_ptr(), account.len(), points) }
+}
+
+fn next_day(account: &mut [u64]) -> u64 {
+    unsafe { meter_next_day(account.as_mut_ptr(), account.len()) }
+}
+
+fn afford(account: &[u64], kind: u64, answer: &mut [u64]) -> u64 {
+    unsafe {
+        meter_afford(
+            account.as_ptr(),
+            account.len(),
+            kind,
+            answer.as_mut_ptr(),
+            answer.len(),
+        )
+    }
+}
+
+fn is_sound(account: &[u64]) -> u64 {
+    unsafe { meter_is_sound(account.as_ptr(), account.len()) }
+}
+
+fn run(account: &mut [u64], file: &[u8], answer: &mut [u64]) -> u64 {
+    unsafe {
+        meter_run(
+            account.as_mut_ptr(),
+            account.len(),
+            file.as_ptr(),
+            file.len(),
+            answer.as_mut_ptr(),
+            answer.len(),
+        )
+    }
+}
+
+fn statement(file: &[u8], answer: &mut [u64]) -> u64 {
+    unsafe { meter_statement(file.as_ptr(), file.len(), answer.as_mut_ptr(), answer.len()) }
+}
+
+fn read(file: &[u8], answer: &mut [u64]) -> u64 {
+    unsafe { meter_read(file.as_ptr(), file.len(), answer.as_mut_ptr(), answer.len()) }
+}
+
+fn find(file: &[u8], kind: u32, answer: &mut [u64]) -> u64 {
+    unsafe {
+        meter_find(
+            file.as_ptr(),
+            file.len(),
+            kind,
+            answer.as_mut_ptr(),
+            answer.len(),
+        )
+    }
+}
+
+fn write(
+    plan: &[u64],
+    codes: &[u32],
+    numbers: &[u32],
+    buffer: &mut [u8],
+    answer: &mut [u64],
+) -> u64 {
     unsafe {
         meter_write(
             plan.as_ptr(),
+            plan.len(),
             codes.as_ptr(),
             codes.len(),
             numbers.as_ptr(),
             numbers.len(),
             buffer.as_mut_ptr(),
             buffer.len(),
+            answer.as_mut_ptr(),
+            answer.len(),
         )
     }
 }
 
-pub fn find(file: &[u8], kind: u32) -> Found {
-    let (bytes, len) = (file.as_ptr(), file.len());
-    // SAFETY: the slice is whole, and the meter does not keep it.
+fn call(section: &[u8], position: usize, answer: &mut [u64]) -> u64 {
     unsafe {
-        Found {
-            number: meter_find_number(bytes, len, kind),
-            length: meter_find_length(bytes, len, kind),
-            sum: meter_find_sum(bytes, len, kind),
-        }
+        meter_call(
+            section.as_ptr(),
+            section.len(),
+            position,
+            answer.as_mut_ptr(),
+            answer.len(),
+        )
     }
 }
 
-pub fn search(day: u64) -> Search {
-    // A place that is not filled in shows: no cap is as large.
-    let mut caps = [u64::MAX; 4];
-    // SAFETY: the list has the four places that are filled in.
-    let read = unsafe { meter_caps(day, caps.as_mut_ptr()) };
-    Search { caps, read }
+fn caps(day: u64, answer: &mut [u64]) -> u64 {
+    unsafe { meter_caps(day, answer.as_mut_ptr(), answer.len()) }
 }

@@ -1,71 +1,83 @@
-//! The two sides of the comparison: calls in the form in which the proved
-//! meter exports them.
+//! The two sides of the comparison: the functions of include/meter.h, with
+//! slices in place of pointers and counts.
 
-use crate::caps::{self, Search};
+use crate::caps;
 use crate::meter::{Account, Answer};
-use crate::plan::{Plan, UNLIMITED};
-use crate::statement::{figures, figures_of, run};
-use crate::terms::{Call, Kind};
+use crate::numbers::{account, numbers, put_log, put_rest, Numbers};
+use crate::plan::Plan;
+use crate::statement::{figures_of, run_calls};
+use crate::terms::{Call, Kind, Place};
 use crate::tripfile::{self, CallReader};
-use crate::writes::Writer;
-use std::hint::black_box;
 
-/// Added to Afford's refusal.
-pub const AFFORD_REFUSED: u64 = 2_000_000_000;
-/// Added to the number of a file that is refused on the way to Afford.
-pub const FILE_REFUSED: u64 = 3_000_000_000;
-/// Added to the number that declines a write.
-pub const WRITE_REFUSED: u64 = 1_000_000;
-/// The answer to a statement with room for fewer than ten figures.
-pub const NO_ROOM: u64 = 1000;
+/// The call was accepted.
+pub const ACCEPTED: u64 = 1000;
+/// The arguments are of no call.
+pub const BAD_ARGUMENT: u64 = 1001;
+/// `Side::call` alone: no further call.
+pub const END: u64 = 1002;
 
-/// What finding a section gives: 0, the length of the part and the wrapping
-/// sum of its words; or the number that declines it, and an empty part.
-#[derive(Clone, Copy, PartialEq, Eq, Debug)]
-pub struct Found {
-    pub number: u64,
-    pub length: usize,
-    pub sum: u32,
-}
+/// How many numbers a plan and the answers have.
+pub const PLAN_NUMBERS: usize = 7;
+pub const USE_NUMBERS: usize = 5;
+pub const AFFORD_NUMBERS: usize = 1;
+pub const RUN_NUMBERS: usize = 1;
+pub const STATEMENT_NUMBERS: usize = 9;
+pub const READ_NUMBERS: usize = 8;
+pub const FIND_NUMBERS: usize = 2;
+pub const WRITE_NUMBERS: usize = 1;
+pub const CALL_NUMBERS: usize = 3;
+pub const CAPS_NUMBERS: usize = 5;
 
-/// A file, a kind, and how often it is asked for.
-pub type Afford = fn(&[u8], Kind, u64) -> u64;
-
-/// A meter.
+/// A meter. Each function returns one of the three numbers above or that of a
+/// refusal. The header says what it does.
 #[derive(Clone, Copy, Debug)]
 pub struct Side {
-    /// The ten figures of a file, put into the list, and 0; or the file's
-    /// number, the list then unchanged.
+    /// Account, plan.
+    pub open: fn(&mut [u64], &[u64]) -> u64,
+    /// Account, place.
+    pub register: fn(&mut [u64], u64) -> u64,
+    /// Account, kind, n, answer.
+    pub use_units: fn(&mut [u64], u64, u64, &mut [u64]) -> u64,
+    /// Account, points.
+    pub top_up: fn(&mut [u64], u64) -> u64,
+    /// Account.
+    pub next_day: fn(&mut [u64]) -> u64,
+    /// Account, kind, answer.
+    pub afford: fn(&[u64], u64, &mut [u64]) -> u64,
+    /// Account.
+    pub is_sound: fn(&[u64]) -> u64,
+    /// Account, file, answer.
+    pub run: fn(&mut [u64], &[u8], &mut [u64]) -> u64,
+    /// File, answer.
     pub statement: fn(&[u8], &mut [u64]) -> u64,
-    /// A plan's seven words, codes and numbers of calls, written into the
-    /// buffer: the number of bytes; or 1,000,000 and the number that declines
-    /// it, the buffer then unchanged. A form above 1 is unlimited.
-    pub write: Writer,
-    /// The section of a kind.
-    pub find: fn(&[u8], u32) -> Found,
-    /// Runs the file, then the calls of a calls section one by one, each with
-    /// its soundness check. The ten figures of the end, put into the list, and
-    /// 0; refused calls are those of the section alone. Or the file's number,
-    /// the list then unchanged.
-    pub calls: fn(&[u8], &[u8], &mut [u64]) -> u64,
-    /// Afford of a kind after the file's calls, asked that many times of an
-    /// account that is lent.
-    pub afford: Afford,
-    /// The same, of an account that is taken by value and handed back.
-    pub afford_by_value: Afford,
-    /// The caps of any day, and how many rows were read for them.
-    pub search: fn(u64) -> Search,
+    /// File, answer.
+    pub read: fn(&[u8], &mut [u64]) -> u64,
+    /// File, kind, answer.
+    pub find: fn(&[u8], u32, &mut [u64]) -> u64,
+    /// Plan, codes, numbers, buffer, answer.
+    pub write: fn(&[u64], &[u32], &[u32], &mut [u8], &mut [u64]) -> u64,
+    /// Calls section, position, answer.
+    pub call: fn(&[u8], usize, &mut [u64]) -> u64,
+    /// Day, answer.
+    pub caps: fn(u64, &mut [u64]) -> u64,
 }
 
 /// This crate's meter.
 pub const REFERENCE: Side = Side {
-    statement,
-    write,
-    find,
-    calls,
+    open,
+    register: |account, place| on_numbers(account, Step::Register(place), &mut []),
+    use_units: |account, kind, n, answer| on_numbers(account, Step::Use(kind, n), answer),
+    top_up: |account, points| on_numbers(account, Step::TopUp(points), &mut []),
+    next_day: |account| on_numbers(account, Step::NextDay, &mut []),
     afford,
-    afford_by_value,
-    search: caps::search,
+    is_sound,
+    run,
+    statement,
+    read,
+    find,
+    write,
+    call,
+    caps,
 };
 
 /// The proved meter, if the crate was built with it.
@@ -76,102 +88,248 @@ pub fn proved() -> Option<Side> {
     None
 }
 
-fn statement(file: &[u8], out: &mut [u64]) -> u64 {
-    let Some(room) = out.first_chunk_mut() else {
-        return NO_ROOM;
+/// One call on an account, with any numbers as arguments.
+#[derive(Clone, Copy, PartialEq, Eq, Debug)]
+pub enum Step {
+    /// Place.
+    Register(u64),
+    /// Kind and n.
+    Use(u64, u64),
+    /// Points.
+    TopUp(u64),
+    NextDay,
+    /// Kind.
+    Afford(u64),
+}
+
+impl From<Call> for Step {
+    fn from(call: Call) -> Step {
+        match call {
+            Call::Register(place) => Step::Register(place as u64),
+            Call::Use(kind, n) => Step::Use(kind as u64, n),
+            Call::TopUp(amount) => Step::TopUp(amount),
+            Call::NextDay => Step::NextDay,
+            Call::Afford(kind) => Step::Afford(kind as u64),
+        }
+    }
+}
+
+impl Step {
+    /// How many numbers its answer has.
+    pub fn answers(self) -> usize {
+        match self {
+            Step::Use(..) => USE_NUMBERS,
+            Step::Afford(_) => AFFORD_NUMBERS,
+            Step::Register(_) | Step::TopUp(_) | Step::NextDay => 0,
+        }
+    }
+
+    /// The call, where place and kind are known ones.
+    pub fn call(self) -> Option<Call> {
+        let kind = |number: u64| Kind::ALL.get(usize::try_from(number).ok()?).copied();
+        match self {
+            Step::Register(place) => {
+                let place = Place::ALL.get(usize::try_from(place).ok()?);
+                Some(Call::Register(*place?))
+            }
+            Step::Use(number, n) => Some(Call::Use(kind(number)?, n)),
+            Step::TopUp(amount) => Some(Call::TopUp(amount)),
+            Step::NextDay => Some(Call::NextDay),
+            Step::Afford(number) => Some(Call::Afford(kind(number)?)),
+        }
+    }
+
+    /// Makes the call on a side.
+    pub fn make(self, side: &Side, account: &mut [u64], answer: &mut [u64]) -> u64 {
+        match self {
+            Step::Register(place) => (side.register)(account, place),
+            Step::Use(kind, n) => (side.use_units)(account, kind, n, answer),
+            Step::TopUp(points) => (side.top_up)(account, points),
+            Step::NextDay => (side.next_day)(account),
+            Step::Afford(kind) => (side.afford)(account, kind, answer),
+        }
+    }
+}
+
+/// An account of this crate and its numbers. Over a list of calls both are
+/// kept, so that the numbers need not be read again at each call.
+#[derive(Clone, Debug)]
+pub struct Kept {
+    pub account: Account,
+    pub numbers: Box<Numbers>,
+}
+
+impl Kept {
+    pub fn new(account: Account) -> Kept {
+        let numbers = Box::new(numbers(&account));
+        Kept { account, numbers }
+    }
+
+    /// Makes a call, as the functions of `REFERENCE` do. Only a day change
+    /// touches the log.
+    pub fn make(&mut self, step: Step, answer: &mut [u64]) -> u64 {
+        let number = on_account(Some(&mut self.account), step, answer);
+        if number == ACCEPTED && step == Step::NextDay {
+            put_log(&mut self.numbers, &self.account);
+        }
+        if number == ACCEPTED {
+            put_rest(&mut self.numbers, &self.account);
+        }
+        number
+    }
+}
+
+/// A call on the account, none where numbers stand for no account.
+fn on_account(account: Option<&mut Account>, step: Step, answer: &mut [u64]) -> u64 {
+    let Some(call) = step.call() else {
+        return BAD_ARGUMENT;
     };
-    match figures_of(file) {
-        Ok(figures) => {
-            *room = figures;
-            0
+    let Some(room) = answer.get_mut(..step.answers()) else {
+        return BAD_ARGUMENT;
+    };
+    let Some(account) = account else {
+        return 0;
+    };
+    match account.apply(call) {
+        Ok(Answer::Done) => {}
+        Ok(Answer::Used {
+            home,
+            extra,
+            surcharged,
+            charged,
+            notice,
+        }) => room.copy_from_slice(&[home, extra, surcharged, charged, u64::from(notice)]),
+        Ok(Answer::Most(n)) => room[0] = n,
+        Err(number) => return u64::from(number),
+    }
+    ACCEPTED
+}
+
+/// A call on the account that numbers stand for; if accepted, they change.
+fn on_numbers(all: &mut [u64], step: Step, answer: &mut [u64]) -> u64 {
+    let mut account = account(all);
+    let number = on_account(account.as_mut(), step, answer);
+    if let (ACCEPTED, Some(account)) = (number, account) {
+        all.copy_from_slice(&numbers(&account));
+    }
+    number
+}
+
+/// Puts what work gives into the first numbers of the answer, where there is
+/// room; without room nothing is worked out.
+fn answered<const N: usize>(
+    answer: &mut [u64],
+    work: impl FnOnce() -> Result<[u64; N], u32>,
+) -> u64 {
+    let Some(room) = answer.first_chunk_mut() else {
+        return BAD_ARGUMENT;
+    };
+    match work() {
+        Ok(numbers) => {
+            *room = numbers;
+            ACCEPTED
         }
         Err(number) => u64::from(number),
     }
 }
 
-fn write(words: &[u64; 7], codes: &[u32], numbers: &[u32], buffer: &mut [u8]) -> u64 {
-    // No range reaches the last 32-bit word: what is wider is outside, too.
+/// The plan of seven numbers. No range reaches the last 32-bit word: what is
+/// wider is outside, too.
+fn plan_of(words: &[u64]) -> Option<Plan> {
+    let words: [u64; PLAN_NUMBERS] = words.try_into().ok()?;
     let narrow = |word: u64| u32::try_from(word).unwrap_or(u32::MAX);
-    let mut plan = Plan::from_words(words.map(narrow));
-    plan.form = plan.form.min(UNLIMITED);
-    match tripfile::write(&plan, codes, numbers, buffer) {
-        Ok(bytes) => bytes as u64,
-        Err(number) => WRITE_REFUSED + u64::from(number),
+    Some(Plan::from_words(words.map(narrow)))
+}
+
+fn open(all: &mut [u64], plan: &[u64]) -> u64 {
+    let Some(plan) = plan_of(plan) else {
+        return BAD_ARGUMENT;
+    };
+    let Ok(all) = <&mut Numbers>::try_from(all) else {
+        return 0;
+    };
+    match Account::open(plan) {
+        Ok(account) => {
+            *all = numbers(&account);
+            ACCEPTED
+        }
+        Err(number) => u64::from(number),
     }
 }
 
-fn find(file: &[u8], kind: u32) -> Found {
-    let found = tripfile::find(file, kind);
-    let part = found.unwrap_or(&[]);
-    Found {
-        number: found.err().map_or(0, u64::from),
-        length: part.len(),
-        sum: tripfile::word_sum(part),
+fn afford(all: &[u64], kind: u64, answer: &mut [u64]) -> u64 {
+    on_account(account(all).as_mut(), Step::Afford(kind), answer)
+}
+
+fn is_sound(all: &[u64]) -> u64 {
+    match account(all) {
+        Some(account) if account.sound() => ACCEPTED,
+        _ => 0,
     }
 }
 
-/// The account that a file leads to, or the file's number.
-fn account_after(file: &[u8]) -> Result<Account, u32> {
-    let (account, _) = run(&tripfile::read(file)?)?;
-    Ok(account)
+fn run(all: &mut [u64], file: &[u8], answer: &mut [u64]) -> u64 {
+    answered(answer, || {
+        let mut account = account(all).filter(Account::sound).ok_or(0u32)?;
+        let trip = tripfile::read(file)?;
+        let refused = run_calls(&mut account, &trip.calls)?;
+        all.copy_from_slice(&numbers(&account));
+        Ok([refused as u64])
+    })
 }
 
-fn calls(file: &[u8], more: &[u8], out: &mut [u64]) -> u64 {
-    let Some(room) = out.first_chunk_mut() else {
-        return NO_ROOM;
-    };
-    let mut account = match account_after(file) {
-        Ok(account) => account,
-        Err(number) => return u64::from(number),
-    };
-    // A code that stands for no call is a refused one.
-    let mut refuses = |(code, number)| {
-        let call = Call::from_words(code, number);
-        call.is_none_or(|call| account.apply(call).is_err())
-    };
-    let refused = CallReader::new(more).filter(|words| refuses(*words));
-    let refused = refused.count();
-    *room = figures(&account, refused);
-    0
+fn statement(file: &[u8], answer: &mut [u64]) -> u64 {
+    answered(answer, || figures_of(file))
 }
 
-fn afford(file: &[u8], kind: Kind, times: u64) -> u64 {
-    let account = match account_after(file) {
-        Ok(account) => account,
-        Err(number) => return FILE_REFUSED + u64::from(number),
+fn read(file: &[u8], answer: &mut [u64]) -> u64 {
+    answered(answer, || {
+        let trip = tripfile::read(file)?;
+        let plan = trip.plan.to_words().map(u64::from);
+        let count = trip.calls.len() as u64;
+        let all: [u64; READ_NUMBERS] =
+            std::array::from_fn(|i| plan.get(i).copied().unwrap_or(count));
+        Ok(all)
+    })
+}
+
+/// Where the section starts is told by where its part of the file stands.
+fn find(file: &[u8], kind: u32, answer: &mut [u64]) -> u64 {
+    answered(answer, || {
+        let part = tripfile::find(file, kind)?;
+        let start = part.as_ptr() as usize - file.as_ptr() as usize;
+        Ok([start as u64, part.len() as u64])
+    })
+}
+
+fn write(
+    plan: &[u64],
+    codes: &[u32],
+    numbers: &[u32],
+    buffer: &mut [u8],
+    answer: &mut [u64],
+) -> u64 {
+    let Some(plan) = plan_of(plan) else {
+        return BAD_ARGUMENT;
     };
-    for _ in 1..times {
-        black_box(black_box(&account).afford(kind).ok());
-    }
-    afford_answer(&account, kind)
+    answered(answer, || {
+        let bytes = tripfile::write(&plan, codes, numbers, buffer)?;
+        Ok([bytes as u64])
+    })
 }
 
-fn afford_by_value(file: &[u8], kind: Kind, times: u64) -> u64 {
-    let mut account = match account_after(file) {
-        Ok(account) => account,
-        Err(number) => return FILE_REFUSED + u64::from(number),
-    };
-    for _ in 1..times {
-        let (same, answer) = asked_by_value(black_box(account), kind);
-        account = black_box(same);
-        black_box(answer);
-    }
-    afford_answer(&account, kind)
+fn call(section: &[u8], position: usize, answer: &mut [u64]) -> u64 {
+    let mut reader = CallReader { section, position };
+    answered(answer, || {
+        let (code, number) = reader.next().ok_or(END as u32)?;
+        Ok([u64::from(code), u64::from(number), reader.position as u64])
+    })
 }
 
-/// Afford of an account that is handed back with the answer. What moves is the
-/// account without the days of its log, which is a list elsewhere in memory.
-#[inline(never)]
-fn asked_by_value(account: Account, kind: Kind) -> (Account, u64) {
-    let answer = afford_answer(&account, kind);
-    (account, answer)
-}
-
-/// Afford's answer as one number.
-pub fn afford_answer(account: &Account, kind: Kind) -> u64 {
-    match account.afford(kind) {
-        Ok(Answer::Most(n)) => n,
-        Ok(other) => unreachable!("Afford answered {other:?}"),
-        Err(number) => AFFORD_REFUSED + u64::from(number),
-    }
+fn caps(day: u64, answer: &mut [u64]) -> u64 {
+    answered(answer, || {
+        let found = caps::search(day);
+        let [data, outgoing, incoming, sms] = found.caps;
+        Ok([data, outgoing, incoming, sms, found.read])
+    })
 }

@@ -5,9 +5,9 @@ use crate::planted::{planted, Wrong};
 use crate::terms::{Call, Kind};
 use crate::tripfile::{self, Trip};
 
-/// day; paid in; credit; home charges; surcharges; whether L is a number (1)
-/// or none (0); L, 0 where none; R; lifetime surcharged kB; refused calls.
-pub type Figures = [u64; 10];
+/// day; paid in; credit; home charges; surcharges; L, 0 where none, else one
+/// more than its kB; R; lifetime surcharged kB; refused calls.
+pub type Figures = [u64; 9];
 
 /// What the program prints, each line ended by a line feed.
 pub fn statement(bytes: &[u8]) -> String {
@@ -24,14 +24,21 @@ pub fn figures_of(bytes: &[u8]) -> Result<Figures, u32> {
 /// were refused.
 pub fn run(trip: &Trip) -> Result<(Account, usize), u32> {
     let mut account = Account::open(trip.plan)?;
+    let refused = run_calls(&mut account, &trip.calls)?;
+    Ok((account, refused))
+}
+
+/// Makes the calls of codes and numbers on an account; answers how many were
+/// refused.
+pub fn run_calls(account: &mut Account, calls: &[(u32, u32)]) -> Result<usize, u32> {
     let mut refused = 0;
-    for (code, number) in &trip.calls {
+    for (code, number) in calls {
         let call = Call::from_words(*code, *number).ok_or(15u32)?;
         if account.apply(call).is_err() && !planted(Wrong::RefusedNotCounted) {
             refused += 1;
         }
     }
-    Ok((account, refused))
+    Ok(refused)
 }
 
 pub fn figures(account: &Account, refused: usize) -> Figures {
@@ -41,8 +48,7 @@ pub fn figures(account: &Account, refused: usize) -> Figures {
         account.credit,
         account.home,
         account.extra,
-        u64::from(account.l.is_some()),
-        account.l.unwrap_or(0),
+        account.l.map_or(0, |limit| limit + 1),
         account.r,
         account.surcharged[Kind::Data as usize],
         refused as u64,
@@ -56,16 +62,21 @@ pub fn lines(account: &Account, refused: usize) -> String {
 
 /// Figures, or the number of a bad file, in lines.
 pub fn text(outcome: &Result<Figures, u32>) -> String {
-    let [day, paid, credit, home, extra, has_limit, limit, roamed, past, refused] = match outcome {
+    let [day, paid, credit, home, extra, limit, roamed, past, refused] = match outcome {
         Ok(figures) => figures,
         Err(number) => return format!("file {number}\n"),
     };
-    let limit = match has_limit {
-        0 => "none".to_string(),
-        _ => limit.to_string(),
-    };
+    let limit = limit_text(*limit);
     format!(
         "day {day}\npaid {paid}\ncredit {credit}\nhome {home}\nextra {extra}\nlimit {limit}\n\
          roamed {roamed}\npast {past}\nrefused {refused}\n"
     )
+}
+
+/// L as it is printed.
+pub fn limit_text(figure: u64) -> String {
+    match figure {
+        0 => "none".to_string(),
+        one_more => (one_more - 1).to_string(),
+    }
 }

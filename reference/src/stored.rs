@@ -6,7 +6,7 @@ use crate::damage::{assemble, resum, set, to_bytes};
 use crate::explain::{explained, with_words};
 use crate::meter::{Account, Answer};
 use crate::plan::{Plan, BUNDLE, PREPAID, UNLIMITED};
-use crate::statement::{figures_of, statement};
+use crate::statement::{figures_of, limit_text, statement};
 use crate::terms::{Kind, Place};
 use crate::tripfile::{write, BEFORE_CALLS, MAX_CALLS, MAX_FILE};
 use std::path::Path;
@@ -680,15 +680,11 @@ fn large_files() -> Vec<StoredCase> {
 
 /// What the program `test_trips` prints of a file: the figures in a line.
 fn line(bytes: &[u8]) -> String {
-    let [day, paid, credit, home, extra, known, limit, roamed, past, refused] =
-        match figures_of(bytes) {
-            Ok(figures) => figures,
-            Err(number) => return format!("file {number}"),
-        };
-    let limit = match known {
-        0 => "none".to_string(),
-        _ => limit.to_string(),
+    let [day, paid, credit, home, extra, limit, roamed, past, refused] = match figures_of(bytes) {
+        Ok(figures) => figures,
+        Err(number) => return format!("file {number}"),
     };
+    let limit = limit_text(limit);
     format!("{day} {paid} {credit} {home} {extra} {limit} {roamed} {past} {refused}")
 }
 

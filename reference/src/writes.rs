@@ -4,11 +4,9 @@
 use crate::faults::bad_plan;
 use crate::generate::any_plan;
 use crate::rng::Rng;
+use crate::sides::Side;
 use crate::terms::Call;
 use crate::tripfile::{Trip, BEFORE_CALLS, MAX_CALLS};
-
-/// A writer: plan, codes, numbers, buffer; see `Side`.
-pub type Writer = fn(&[u64; 7], &[u32], &[u32], &mut [u8]) -> u64;
 
 /// One write and the number that declines it, 0 where it must be done.
 #[derive(Clone, PartialEq, Eq, Debug)]
@@ -73,9 +71,9 @@ impl WriteCase {
         }
     }
 
-    /// The answer of a writer, which fills the buffer.
-    pub fn run(&self, writer: Writer, buffer: &mut [u8]) -> u64 {
-        writer(&self.plan, &self.codes, &self.numbers, buffer)
+    /// What the writer of a side returns; it fills buffer and answer.
+    pub fn run(&self, side: &Side, buffer: &mut [u8], answer: &mut [u64]) -> u64 {
+        (side.write)(&self.plan, &self.codes, &self.numbers, buffer, answer)
     }
 
     /// Whether 14 would decline it under a good plan.
