@@ -1,6 +1,7 @@
 #!/bin/sh
 # Plants each wrong rule of src/planted.rs in this crate's meter and checks
-# that the comparison with the proved meter finds it within 1,000 trips.
+# that the comparison with the proved meter finds it within 1,000 trips, as many
+# files and 10,000 accounts.
 # planted.sh [SEED]
 set -eu
 CDPATH= cd -- "$(dirname -- "$0")"
@@ -14,14 +15,17 @@ cd "$scratch"
 
 # run RULE
 run() {
-    METER_WRONG=$1 "$differ" --seed "$seed" --trips 1000 --damaged 1000 >out 2>err
+    METER_WRONG=$1 "$differ" --seed "$seed" --trips 1000 --damaged 1000 --accounts 10000 >out 2>err
 }
 
-run none || {
+# Without a wrong rule nothing may differ. So short a run may miss events (3).
+status=0
+run none || status=$?
+if [ "$status" -ne 0 ] && [ "$status" -ne 3 ]; then
     cat err out
     echo "planted: the meters differ without a wrong rule, or the comparison does not run"
     exit 1
-}
+fi
 rule=1
 missed=0
 all=1

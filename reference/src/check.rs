@@ -1,6 +1,7 @@
 //! The checks that each random trip goes through.
 
 use crate::book::{Book, Stage};
+use crate::coverage::seen::{rest, Observed};
 use crate::coverage::{Coverage, TripEvents};
 use crate::damage;
 use crate::generate::{self, Case};
@@ -8,9 +9,9 @@ use crate::matching;
 use crate::meter::{Account, Answer};
 use crate::rng::Rng;
 use crate::services::State;
-use crate::sides::{ACCEPTED, REFERENCE};
+use crate::sides::{Kept, Step, ACCEPTED, FIND_NUMBERS, READ_NUMBERS, REFERENCE, USE_NUMBERS};
 use crate::statement::{lines, statement};
-use crate::terms::{Call, Kind};
+use crate::terms::{Call, Kind, Place};
 use crate::tripfile::{self, Trip, BEFORE_CALLS, CALLS_KIND, MAX_CALLS, PLAN_KIND};
 use crate::writes::WriteCase;
 
@@ -43,39 +44,47 @@ pub fn check_seed(seed: u64, coverage: &mut Coverage) -> Result<usize, Failure> 
 
 /// The account against the book after every call.
 pub fn check_list(case: &Case, rng: &mut Rng, events: &mut TripEvents) -> Result<(), Failure> {
-    let mut account = Account::open(case.plan).map_err(|n| format!("open refused: {n}"))?;
+    let account = Account::open(case.plan).map_err(|n| format!("open refused: {n}"))?;
+    let mut kept = Kept::new(account);
     let mut book = Book::new(case.plan);
     if case.calls.is_empty() {
         events.empty_list();
     }
-    compare(&account, &book).map_err(|what| format!("at opening: {what}"))?;
+    compare(&kept.account, &book).map_err(|what| format!("at opening: {what}"))?;
     for (index, call) in case.calls.iter().enumerate() {
-        let whole = one_call(&mut account, &mut book, *call, rng, events);
+        let whole = one_call(&mut kept, &mut book, *call, rng, events);
         whole.map_err(|what| format!("call {index}, {call:?}: {what}"))?;
     }
     Ok(())
 }
 
 fn one_call(
-    account: &mut Account,
+    kept: &mut Kept,
     book: &mut Book,
     call: Call,
     rng: &mut Rng,
     events: &mut TripEvents,
 ) -> Result<(), Failure> {
-    let before = account.clone();
-    let verdict = book.verdict(call);
-    let got = account.apply(call);
-    let number = got.err().unwrap_or(0);
-    demand(number == verdict, || {
-        format!("answered {got:?}, the book says {verdict}")
+    let before = kept.account.clone();
+    let numbers_before = *rest(&kept.numbers);
+    let (step, mut answer) = (Step::from(call), [0; USE_NUMBERS]);
+    let returned = kept.make(step, &mut answer);
+    let verdict = match book.verdict(call) {
+        0 => ACCEPTED,
+        number => u64::from(number),
+    };
+    demand(returned == verdict, || {
+        format!("returned {returned}, the book says {verdict}")
     })?;
-    if got.is_err() {
+    let account = &kept.account;
+    if returned == ACCEPTED {
+        check_answer(&before, book, call, &answer, account)?;
+    } else {
         demand(*account == before, || "a refusal altered".to_string())?;
     }
-    check_answer(&before, book, call, &got, account)?;
-    book.feed(call, got.is_ok());
-    events.call(&before, call, &got, account);
+    book.feed(call, returned == ACCEPTED);
+    let seen = Observed::new(step, returned, &answer, &numbers_before, &kept.numbers);
+    events.call(&seen)?;
     compare(account, book)?;
     let kind = rng.pick(&Kind::ALL);
     compare_kind(account, book, kind)?;
@@ -96,33 +105,34 @@ fn compare_kind(account: &Account, book: &Book, kind: Kind) -> Result<(), Failur
     demand(right, || format!("units of {kind:?}"))
 }
 
-/// The answer of a use or Afford against the two accounts and the book.
+/// The answer of an accepted use or Afford against the two accounts and the
+/// book.
 fn check_answer(
     before: &Account,
     book: &Book,
     call: Call,
-    got: &Result<Answer, u32>,
+    answer: &[u64; USE_NUMBERS],
     now: &Account,
 ) -> Result<(), Failure> {
-    let right = match (call, got) {
-        (_, Err(_)) => true,
-        (Call::Use(kind, n), Ok(answer)) => {
+    let right = match call {
+        Call::Use(kind, n) => {
             let share = book.share(kind, n);
             let (r, l) = (book.r(), book.l());
-            let grows = kind == Kind::Data && before.place == Some(crate::terms::Place::Zone);
+            let grows = kind == Kind::Data && before.place == Some(Place::Zone);
+            let notice = grows && l.is_some_and(|l| r < l && r + n >= l);
             *answer
-                == Answer::Used {
-                    home: now.home - before.home,
-                    extra: now.extra - before.extra,
-                    surcharged: share.surcharged,
-                    charged: share.charged,
-                    notice: grows && l.is_some_and(|l| r < l && r + n >= l),
-                }
+                == [
+                    now.home - before.home,
+                    now.extra - before.extra,
+                    share.surcharged,
+                    share.charged,
+                    u64::from(notice),
+                ]
         }
-        (Call::Afford(_), Ok(answer)) => matches!(answer, Answer::Most(_)) && before == now,
-        (_, Ok(answer)) => *answer == Answer::Done,
+        Call::Afford(_) => before == now,
+        Call::Register(_) | Call::TopUp(_) | Call::NextDay => true,
     };
-    demand(right, || format!("wrong answer {got:?}"))
+    demand(right, || format!("wrong answer {answer:?}"))
 }
 
 /// Soundness, the balance, and the fields that the book knows too.
@@ -236,13 +246,14 @@ pub fn check_pairs(
     demand(first.accounts == same.accounts, || {
         "rearranged uses: other accounts".to_string()
     })?;
-    events.pair(&first, &same, rearranged == case.calls);
+    let stretches = first.stretches();
+    events.pair(&stretches, &same.stretches(), rearranged == case.calls);
     let mut lists = vec![rearranged, matching::altered(rng, &case.calls)];
     lists.extend(matching::divided(rng, &case.calls));
     for calls in &lists[1..] {
         let other = matching::trace(case.plan, calls);
         demand(first.cuts == other.cuts, || "altered cuts".to_string())?;
-        events.pair(&first, &other, *calls == case.calls);
+        events.pair(&stretches, &other.stretches(), *calls == case.calls);
         demand(first.matches(&other), || "altered uses".to_string())?;
     }
     Ok(lists)
@@ -255,15 +266,17 @@ fn check_file(rng: &mut Rng, events: &mut TripEvents) -> Result<(), Failure> {
     let bytes = &sample.bytes;
     let got = tripfile::read(bytes);
     let number = got.as_ref().err().copied().unwrap_or(0);
-    events.file(number)?;
-    events.plan_of_file(bytes, number);
+    let mut answer = [0; READ_NUMBERS];
+    events.read(bytes, (REFERENCE.read)(bytes, &mut answer))?;
     let right = sample.expected.is_none_or(|expected| expected == number);
     demand(right, || {
         format!("file {number}, made for {:?}", sample.expected)
     })?;
     let finds = [PLAN_KIND, CALLS_KIND].map(|kind| tripfile::find(bytes, kind).err());
-    for found in finds {
-        events.find(found.unwrap_or(0))?;
+    for kind in [PLAN_KIND, CALLS_KIND] {
+        let mut part = [0; FIND_NUMBERS];
+        let returned = (REFERENCE.find)(bytes, kind, &mut part);
+        events.find(bytes, kind, returned, &part)?;
     }
     let agrees = match number {
         10..=12 => finds == [Some(number); 2],
@@ -278,26 +291,25 @@ fn check_file(rng: &mut Rng, events: &mut TripEvents) -> Result<(), Failure> {
     })
 }
 
-/// A random write gets the number that it was made for. A refusal leaves the
-/// buffer, and what is written leaves the bytes behind it and is read again.
+/// A random write returns what it was made for. Without being accepted it
+/// leaves the buffer, and what is written leaves the bytes behind it and is read
+/// again.
 fn check_write(rng: &mut Rng, events: &mut TripEvents) -> Result<(), Failure> {
     let case = WriteCase::random(rng);
     let mut buffer = case.buffer.clone();
-    let mut bytes = [0];
-    let returned = case.run(&REFERENCE, &mut buffer, &mut bytes);
-    events.write(case.expected)?;
-    events.plan_of_write(&case, case.expected);
-    let length = match case.expected {
-        0 => BEFORE_CALLS + 8 * case.codes.len(),
-        number => {
-            let right = returned == u64::from(number) && buffer == case.buffer && bytes == [0];
-            return demand(right, || format!("write {returned}, {}", case.outline()));
-        }
-    };
-    let right = returned == ACCEPTED
-        && bytes == [length as u64]
-        && buffer[length..] == case.buffer[length..];
-    demand(right, || format!("write {returned}, {}", case.outline()))?;
+    let mut answer = [0; 3];
+    let returned = case.run(&REFERENCE, &mut buffer, &mut answer[..case.room]);
+    events.write(&case, returned)?;
+    demand(returned == case.expected, || {
+        format!("write {returned}, {}", case.outline())
+    })?;
+    if returned != ACCEPTED {
+        let stays = buffer == case.buffer && answer == [0; 3];
+        return demand(stays, || format!("write altered, {}", case.outline()));
+    }
+    let length = BEFORE_CALLS + 8 * case.codes.len();
+    let right = answer == [length as u64, 0, 0] && buffer[length..] == case.buffer[length..];
+    demand(right, || format!("write {answer:?}, {}", case.outline()))?;
     let read = tripfile::read(&buffer[..length]).map(|trip| WriteCase::again(&trip, rng));
     let same = |again: &WriteCase| {
         again.plan == case.plan && again.codes == case.codes && again.numbers == case.numbers

@@ -60,7 +60,7 @@ pub fn resum(bytes: &mut [u8]) {
 pub fn sample(rng: &mut Rng) -> Sample {
     let plan = any_plan(rng);
     let mut sections = sound_sections(rng, &plan);
-    let (bytes, expected) = match rng.below(12) {
+    let (bytes, expected) = match rng.below(25) / 2 {
         0 => (assemble(&sections), Some(0)),
         1 => (wrong_length(rng, assemble(&sections)), Some(10)),
         2 => (wrong_sum(rng, assemble(&sections)), Some(11)),
@@ -73,7 +73,8 @@ pub fn sample(rng: &mut Rng) -> Sample {
             (assemble(&sections), Some(number))
         }
         10 => (scrambled(rng, assemble(&sections)), None),
-        _ => (changed_word(rng, assemble(&sections)), None),
+        11 => (changed_word(rng, assemble(&sections)), None),
+        _ => (noise(rng), None),
     };
     Sample { bytes, expected }
 }
@@ -119,7 +120,13 @@ fn wrong_length(rng: &mut Rng, mut bytes: Vec<u8>) -> Vec<u8> {
     match rng.below(6) {
         0 => bytes.truncate(rng.below(bytes.len() as u64) as usize),
         1 => bytes.extend((0..rng.between(1, 9)).map(|_| 0)),
-        2 => bytes = (0..rng.below(12)).map(|_| 0).collect(),
+        2 => {
+            let length = rng.below(12) as usize;
+            bytes = vec![0; length];
+            if length >= 4 && rng.chance(50) {
+                set(&mut bytes, 0, length as u32);
+            }
+        }
         3 => {
             bytes.resize(65_540, 0);
             set(&mut bytes, 0, 65_540);
@@ -259,8 +266,12 @@ fn wrong_kinds(rng: &mut Rng, sections: &mut Vec<Section>) -> Vec<u8> {
     assemble(sections)
 }
 
-/// 14: plan body not 28, calls body empty or not a multiple of 8.
+/// 14: plan body not 28, calls body empty or not a multiple of 8; a call may be
+/// bad too.
 fn wrong_bodies(rng: &mut Rng, sections: &mut [Section]) -> Vec<u8> {
+    if rng.chance(30) {
+        spoil_call(rng, sections);
+    }
     match rng.below(4) {
         0 => body_of(sections, 1).truncate(4 * rng.below(7) as usize),
         1 => body_of(sections, 1).extend([0; 4]),
@@ -278,19 +289,23 @@ fn wrong_calls(rng: &mut Rng, sections: &mut [Section]) -> Vec<u8> {
     if rng.chance(30) {
         wrong_plan(rng, sections);
     }
+    spoil_call(rng, sections);
+    assemble(sections)
+}
+
+fn spoil_call(rng: &mut Rng, sections: &mut [Section]) {
     let calls = body_of(sections, 2);
     let at = 2 * rng.below(calls.len() as u64 / 8) as usize;
     let bad = [(0, 0), (8, 0), (u32::MAX, 1), (1, 3), (7, 1), (1, 1 << 31)];
     let (code, number) = rng.pick(&bad);
     set(calls, at, code);
     set(calls, at + 1, number);
-    assemble(sections)
 }
 
 /// 1, 17, 18 or 2: puts a plan with faults in place of the sound one; answers
 /// its number.
 fn wrong_plan(rng: &mut Rng, sections: &mut [Section]) -> u32 {
-    let (words, number) = bad_plan(rng, true, &[u64::from(u32::MAX)]);
+    let (words, number) = bad_plan(rng, &[u64::from(u32::MAX)]);
     *body_of(sections, 1) = to_bytes(&words.map(|word| word as u32));
     number
 }
@@ -313,6 +328,19 @@ fn changed_word(rng: &mut Rng, mut bytes: Vec<u8>) -> Vec<u8> {
     let old = get(&bytes, index);
     let by = rng.pick(&[1, 4, 8, u32::MAX, 0u32.wrapping_sub(4), 1 << 31]);
     set(&mut bytes, index, old.wrapping_add(by));
+    resum(&mut bytes);
+    bytes
+}
+
+/// Random words behind a right length, sum and, at times, count.
+fn noise(rng: &mut Rng) -> Vec<u8> {
+    let count = rng.between(3, 40);
+    let mut words: Vec<u32> = (0..count).map(|_| rng.word() as u32).collect();
+    words[0] = 4 * count as u32;
+    if rng.chance(70) {
+        words[2] = rng.between(1, 9) as u32;
+    }
+    let mut bytes = to_bytes(&words);
     resum(&mut bytes);
     bytes
 }

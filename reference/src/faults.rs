@@ -150,7 +150,7 @@ impl Fault {
             _ => above(rng, most),
         };
         match self {
-            Fault::UnknownForm => words[0] = rng.pick(&[3, 4, u64::from(u32::MAX)]),
+            Fault::UnknownForm => words[0] = above(rng, 2),
             Fault::PrepaidFee => words[5] = unused(rng, MOST_FEE),
             Fault::PrepaidVolume | Fault::UnlimitedVolume => words[6] = unused(rng, MOST_VOLUME),
             Fault::UnlimitedDataPrice => words[2] = unused(rng, MOST_PRICE),
@@ -200,10 +200,9 @@ pub fn unused_too_large(fault: Fault, words: &Words) -> bool {
     }
 }
 
-/// A plan with one, two or three faults, and the number that it must get.
-/// Without `forms` the form is a known one. Half of the plans have two of those
-/// that stand in `PAIRS`.
-pub fn bad_plan(rng: &mut Rng, forms: bool, wide: &[u64]) -> (Words, u32) {
+/// A plan with one, two or three faults, and the number that it must get. Half
+/// of the plans have two of those that stand in `PAIRS`.
+pub fn bad_plan(rng: &mut Rng, wide: &[u64]) -> (Words, u32) {
     loop {
         let faults = match rng.below(10) {
             0 => vec![Fault::StartDay],
@@ -216,7 +215,7 @@ pub fn bad_plan(rng: &mut Rng, forms: bool, wide: &[u64]) -> (Words, u32) {
         };
         let suited = |form: &u32| faults.iter().all(|fault| fault.suits(*form));
         let suited: Vec<u32> = FORMS.into_iter().filter(suited).collect();
-        if suited.is_empty() || (!forms && faults.contains(&Fault::UnknownForm)) {
+        if suited.is_empty() {
             continue;
         }
         let form = rng.pick(&suited);

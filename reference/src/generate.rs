@@ -1,13 +1,13 @@
 //! Random plans and lists of calls from a seed. The maker runs an account
 //! beside the list, so that it can aim at the edges of credit, V and L.
 
-use crate::caps::ROWS;
-use crate::coverage::points_of_seconds;
+use crate::caps::{caps_on, ROWS};
+use crate::charges::{extra_points, home_points};
 use crate::meter::{Account, Answer, LEAST_CHARGED, MAX_LIFETIME, MAX_UNITS};
 use crate::plan::{Plan, BUNDLE, LAST_DAY, MAX_FEE, MAX_PRICE, MAX_VOLUME, PREPAID, UNLIMITED};
 use crate::rng::Rng;
 use crate::services::State;
-use crate::terms::{Call, Kind, Place, GB};
+use crate::terms::{Call, Kind, Place, Service, GB};
 use crate::tripfile::{write, BEFORE_CALLS, MAX_CALLS};
 
 /// Outgoing records about the half minute of 02, 3/13.
@@ -166,7 +166,7 @@ fn start_day(rng: &mut Rng) -> u32 {
     match rng.below(4) {
         0 => 181 + rng.below(3) as u32,
         1 => rng.pick(&ROWS).0.max(182) - rng.below(2) as u32,
-        2 => rng.between(3780, 3833) as u32,
+        2 => rng.between(3780, 3840).min(3833) as u32,
         _ => rng.between(181, 3833) as u32,
     }
 }
@@ -519,4 +519,18 @@ impl Maker {
         self.call(Call::TopUp(1));
         self.mixed(60);
     }
+}
+
+/// What so many more outgoing seconds at a place would take from the credit.
+fn points_of_seconds(account: &Account, place: Place, seconds: u64) -> u64 {
+    let k = Kind::Outgoing as usize;
+    let (mut priced, mut cap_sums) = (account.priced, account.cap_sums);
+    if place != Place::Elsewhere {
+        priced[k] += seconds;
+    }
+    if place == Place::Zone && account.states[Service::Calls as usize] == State::Surcharged {
+        cap_sums[k] += caps_on(account.day)[k] * seconds;
+    }
+    let sums = home_points(&account.plan, &priced) + extra_points(&cap_sums);
+    sums - account.home - account.extra
 }

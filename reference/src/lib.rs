@@ -13,6 +13,7 @@
 //! `instructions.sh` counts the proved meter's instructions; the example
 //! `timing` times this meter alone.
 
+pub mod accounts;
 pub mod book;
 pub mod calendar;
 pub mod caps;
@@ -20,6 +21,7 @@ pub mod charges;
 pub mod check;
 pub mod coverage;
 pub mod damage;
+pub mod differ;
 pub mod explain;
 pub mod faults;
 pub mod generate;

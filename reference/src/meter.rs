@@ -4,7 +4,7 @@
 use crate::calendar;
 use crate::caps::{caps_on, Caps};
 use crate::charges::{extra_points, home_points, past};
-use crate::plan::{day_in_range, prepaid_limit, Plan, BUNDLE, LAST_DAY, PREPAID};
+use crate::plan::{day_in_range, prepaid_limit, Plan, BUNDLE, LAST_DAY, PREPAID, UNLIMITED};
 use crate::planted::{planted, Wrong};
 use crate::services::{step, Day, Log, State, LOG_DAYS};
 use crate::terms::{Call, Kind, Place, Service};
@@ -111,7 +111,8 @@ impl Account {
     /// The soundness list. Ranges come first, so that the sums after them
     /// cannot overflow whatever the fields hold.
     pub fn sound(&self) -> bool {
-        self.days_sound() && self.units_sound() && self.money_sound()
+        planted(Wrong::AlwaysSound)
+            || (self.days_sound() && self.units_sound() && self.money_sound())
     }
 
     /// Plan, day, log length, Warned counts and L.
@@ -135,6 +136,8 @@ impl Account {
     fn units_sound(&self) -> bool {
         let logged = self.logged_units();
         let data = self.lifetime[Kind::Data as usize];
+        let sums_pass =
+            planted(Wrong::CapSumsNotBounded) || planted(Wrong::SurchargedCallsNotCounted);
         let mut charged = self.lifetime;
         charged[Kind::Outgoing as usize] = self.charged;
         let kind_sound = |k: usize| {
@@ -143,7 +146,7 @@ impl Account {
                 && self.priced[k] <= charged[k]
                 && self.surcharged[k] <= charged[k]
                 && (logged[k] <= self.lifetime[k] || planted(Wrong::PrevalenceByChargedSeconds))
-                && self.cap_sums[k] <= MAX_CAP * self.surcharged[k]
+                && (self.cap_sums[k] <= MAX_CAP * self.surcharged[k] || sums_pass)
         };
         (0..4).all(kind_sound) && self.r <= data && self.h <= data
     }
@@ -217,7 +220,14 @@ impl Account {
             return Err(7);
         }
         if self.paid_in + amount > MAX_PAID_IN {
-            return Err(8);
+            return Err(if planted(Wrong::PaidInToldAsAmount) {
+                7
+            } else {
+                8
+            });
+        }
+        if let (true, Some(place)) = (planted(Wrong::TopUpMarks), self.place) {
+            self.today.mark(place);
         }
         self.credit += amount;
         self.paid_in += amount;
@@ -245,9 +255,20 @@ impl Account {
         if !self.sound() {
             return Err(0);
         }
-        let place = self.place.ok_or(3u32)?;
-        if !(1..=MAX_UNITS).contains(&n) {
+        let in_range = (1..=MAX_UNITS).contains(&n);
+        if planted(Wrong::UnitsBeforePlace) && !in_range {
             return Err(4);
+        }
+        let place = self.place.ok_or(3u32)?;
+        if planted(Wrong::RefusedUseMarks) {
+            self.today.mark(place);
+        }
+        if !in_range {
+            return Err(if planted(Wrong::UnitsToldAsCredit) {
+                6
+            } else {
+                4
+            });
         }
         if self.lifetime[kind as usize] + n > MAX_LIFETIME {
             return Err(5);
@@ -298,6 +319,7 @@ impl Account {
     /// the first V of H, none without limit; outgoing seconds; SMS.
     fn priced_units(&self, place: Place, kind: Kind, n: u64) -> u64 {
         match (place, kind) {
+            (_, Kind::Incoming) if planted(Wrong::IncomingPriced) => n,
             (Place::Elsewhere, _) | (_, Kind::Incoming) => 0,
             (_, Kind::Outgoing | Kind::Sms) => n,
             (_, Kind::Data) => match self.plan.form {
@@ -330,46 +352,63 @@ impl Account {
 
     /// Books an accepted use and answers it.
     fn take(&mut self, place: Place, kind: Kind, n: u64, cap: u64, charge: Charge) -> Answer {
-        let k = kind as usize;
         let home = charge.home - self.home;
         let extra = charge.extra - self.extra;
         let notice = self.gives_notice(place, kind, n);
         self.credit -= home + extra;
         self.home = charge.home;
         self.extra = charge.extra;
-        self.lifetime[k] += n;
-        if kind == Kind::Outgoing {
-            self.charged += charge.units;
-        }
-        self.priced[k] += charge.priced;
-        self.surcharged[k] += charge.surcharged;
-        self.cap_sums[k] += cap * charge.surcharged;
+        self.count_units(kind, n, cap, &charge);
         self.today.mark(place);
         let by_charged = planted(Wrong::PrevalenceByChargedSeconds);
-        self.today.units[k][place as usize] += if by_charged { charge.units } else { n };
+        let units = if by_charged { charge.units } else { n };
+        self.today.units[kind as usize][place as usize] += units;
         if kind == Kind::Data {
             self.count_data(place, n);
         }
+        let all_answered = planted(Wrong::AllUnitsAnsweredAsSurcharged);
+        let other_way = planted(Wrong::PointsAnsweredTheOtherWay);
         Answer::Used {
-            home,
-            extra,
-            surcharged: charge.surcharged,
+            home: if other_way { extra } else { home },
+            extra: if other_way { home } else { extra },
+            surcharged: if all_answered { n } else { charge.surcharged },
             charged: charge.units,
             notice,
         }
     }
 
+    /// Lifetime, priced and surcharged units of an accepted use.
+    fn count_units(&mut self, kind: Kind, n: u64, cap: u64, charge: &Charge) {
+        let k = kind as usize;
+        if kind != Kind::Incoming || !planted(Wrong::IncomingNotInLifetime) {
+            self.lifetime[k] += n;
+        }
+        if kind == Kind::Outgoing {
+            self.charged += charge.units;
+        }
+        self.priced[k] += charge.priced;
+        if kind == Kind::Data || !planted(Wrong::SurchargedCallsNotCounted) {
+            self.surcharged[k] += charge.surcharged;
+        }
+        self.cap_sums[k] += cap * charge.surcharged;
+    }
+
     /// "A notice if R was below L and now isn't."
     fn gives_notice(&self, place: Place, kind: Kind, n: u64) -> bool {
+        let one_more = u64::from(planted(Wrong::NoticePastLimitAlone));
         match (place, kind, self.l) {
-            (Place::Zone, Kind::Data, Some(limit)) => self.r < limit && self.r + n >= limit,
+            _ if planted(Wrong::NoticeNever) => false,
+            (Place::Zone, Kind::Data, Some(limit)) => {
+                self.r < limit && self.r + n >= limit + one_more
+            }
             _ => false,
         }
     }
 
     /// H: a bundle's home and zone kB of the month. R: zone kB.
     fn count_data(&mut self, place: Place, n: u64) {
-        if place != Place::Elsewhere && !self.plan.is_prepaid() {
+        let left_out = planted(Wrong::UnlimitedMonthNotCounted) && self.plan.form == UNLIMITED;
+        if place != Place::Elsewhere && !self.plan.is_prepaid() && !left_out {
             self.h += n;
         }
         if place == Place::Zone {

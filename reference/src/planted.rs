@@ -82,10 +82,47 @@ pub enum Wrong {
     PricesToldAsForm,
     /// The writer counts codes and numbers before it looks at the plan.
     CountBeforePlan,
+    /// No use gives a notice.
+    NoticeNever,
+    /// A notice comes where R passes L, and not where it just reaches it.
+    NoticePastLimitAlone,
+    /// A use answers all its units as surcharged ones.
+    AllUnitsAnsweredAsSurcharged,
+    /// A use answers its surcharge as home points, and the other way round.
+    PointsAnsweredTheOtherWay,
+    /// Units out of range are told as 6, not as 4.
+    UnitsToldAsCredit,
+    /// Use looks at the units before it looks at the place.
+    UnitsBeforePlace,
+    /// A top-up that would pass the limit of all payments is told as 7, not 8.
+    PaidInToldAsAmount,
+    /// Surcharged units of calls and SMS are not counted, though they are charged;
+    /// soundness lets it pass.
+    SurchargedCallsNotCounted,
+    /// H of a bundle without volume limit stays 0.
+    UnlimitedMonthNotCounted,
+    /// A use that is refused marks the day.
+    RefusedUseMarks,
+    /// Every account is taken for a sound one.
+    AlwaysSound,
+    /// Soundness does not hold cap sums against surcharged units.
+    CapSumsNotBounded,
+    /// A top-up marks the day.
+    TopUpMarks,
+    /// Incoming seconds are left out of the lifetime units.
+    IncomingNotInLifetime,
+    /// Incoming seconds are kept as priced ones.
+    IncomingPriced,
+    /// Incoming seconds at home are among the other units of calls.
+    HomeIncomingCounts,
+    /// As many zone units as other units prevail.
+    EqualUnitsPrevail,
+    /// A day that is marked elsewhere alone is off.
+    ElsewhereDayOff,
 }
 
 impl Wrong {
-    pub const ALL: [Wrong; 36] = [
+    pub const ALL: [Wrong; 54] = [
         Wrong::RoundsEachRecord,
         Wrong::LimitFromTopUp,
         Wrong::SurchargesTwice,
@@ -122,6 +159,24 @@ impl Wrong {
         Wrong::NoVolumeAccepted,
         Wrong::PricesToldAsForm,
         Wrong::CountBeforePlan,
+        Wrong::NoticeNever,
+        Wrong::NoticePastLimitAlone,
+        Wrong::AllUnitsAnsweredAsSurcharged,
+        Wrong::PointsAnsweredTheOtherWay,
+        Wrong::UnitsToldAsCredit,
+        Wrong::UnitsBeforePlace,
+        Wrong::PaidInToldAsAmount,
+        Wrong::SurchargedCallsNotCounted,
+        Wrong::UnlimitedMonthNotCounted,
+        Wrong::RefusedUseMarks,
+        Wrong::AlwaysSound,
+        Wrong::CapSumsNotBounded,
+        Wrong::TopUpMarks,
+        Wrong::IncomingNotInLifetime,
+        Wrong::IncomingPriced,
+        Wrong::HomeIncomingCounts,
+        Wrong::EqualUnitsPrevail,
+        Wrong::ElsewhereDayOff,
     ];
 }
 

@@ -41,7 +41,8 @@ impl Day {
     /// "It counts as home if marked home or elsewhere, else zone if marked
     /// zone, else off."
     pub fn counts_as(&self) -> DayCount {
-        if self.marks[Place::Home as usize] || self.marks[Place::Elsewhere as usize] {
+        let elsewhere = self.marks[Place::Elsewhere as usize] && !planted(Wrong::ElsewhereDayOff);
+        if self.marks[Place::Home as usize] || elsewhere {
             DayCount::Home
         } else if self.marks[Place::Zone as usize] {
             DayCount::Zone
@@ -73,9 +74,14 @@ impl Day {
                 self.of(Kind::Data, Place::Home) + self.of(Kind::Data, Place::Elsewhere)
             }
             Service::Calls => {
+                let incoming = match planted(Wrong::HomeIncomingCounts) {
+                    true => self.of(Kind::Incoming, Place::Home),
+                    false => 0,
+                };
                 self.of(Kind::Outgoing, Place::Home)
                     + self.of(Kind::Outgoing, Place::Elsewhere)
                     + self.of(Kind::Incoming, Place::Elsewhere)
+                    + incoming
             }
             Service::Sms => self.of(Kind::Sms, Place::Home) + self.of(Kind::Sms, Place::Elsewhere),
         }
@@ -135,7 +141,8 @@ impl Window {
 
     /// Zone days prevail and zone units exceed other units.
     pub fn prevails(&self, w: usize) -> bool {
-        self.zone_days_prevail(w) && self.zone_units > self.other_units
+        let equal = planted(Wrong::EqualUnitsPrevail) && self.zone_units == self.other_units;
+        self.zone_days_prevail(w) && (self.zone_units > self.other_units || equal)
     }
 }
 

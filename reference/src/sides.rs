@@ -28,6 +28,9 @@ pub const WRITE_NUMBERS: usize = 1;
 pub const CALL_NUMBERS: usize = 3;
 pub const CAPS_NUMBERS: usize = 5;
 
+/// Plan, codes, numbers, buffer, answer.
+pub type Writer = fn(&[u64], &[u32], &[u32], &mut [u8], &mut [u64]) -> u64;
+
 /// A meter. Each function returns one of the three numbers above or that of a
 /// refusal. The header says what it does.
 #[derive(Clone, Copy, Debug)]
@@ -54,8 +57,7 @@ pub struct Side {
     pub read: fn(&[u8], &mut [u64]) -> u64,
     /// File, kind, answer.
     pub find: fn(&[u8], u32, &mut [u64]) -> u64,
-    /// Plan, codes, numbers, buffer, answer.
-    pub write: fn(&[u64], &[u32], &[u32], &mut [u8], &mut [u64]) -> u64,
+    pub write: Writer,
     /// Calls section, position, answer.
     pub call: fn(&[u8], usize, &mut [u64]) -> u64,
     /// Day, answer.

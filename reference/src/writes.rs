@@ -4,21 +4,23 @@
 use crate::faults::bad_plan;
 use crate::generate::any_plan;
 use crate::rng::Rng;
-use crate::sides::Side;
+use crate::sides::{Side, ACCEPTED, BAD_ARGUMENT, PLAN_NUMBERS, WRITE_NUMBERS};
 use crate::terms::Call;
 use crate::tripfile::{Trip, BEFORE_CALLS, MAX_CALLS};
 
-/// One write and the number that declines it, 0 where it must be done.
+/// One write and what it must return.
 #[derive(Clone, PartialEq, Eq, Debug)]
 pub struct WriteCase {
-    /// The plan's seven words. The form is a known one; the others may be any
-    /// number.
-    pub plan: [u64; 7],
+    /// The plan's numbers: seven, but for those that must be declined, of any
+    /// form and size.
+    pub plan: Vec<u64>,
     pub codes: Vec<u32>,
     pub numbers: Vec<u32>,
     /// The buffer before.
     pub buffer: Vec<u8>,
-    pub expected: u32,
+    /// How many numbers are lent for the answer.
+    pub room: usize,
+    pub expected: u64,
 }
 
 impl WriteCase {
@@ -30,22 +32,24 @@ impl WriteCase {
         let short = rng.below(8) == 0;
         let room = room(rng, need, short);
         WriteCase {
-            plan: trip.plan.to_words().map(u64::from),
+            plan: trip.plan.to_words().map(u64::from).to_vec(),
             codes,
             numbers,
             buffer: rng.bytes(room),
-            expected: if short { 16 } else { 0 },
+            room: WRITE_NUMBERS,
+            expected: if short { 16 } else { ACCEPTED },
         }
     }
 
     /// A random write. The plan is bad in two of five cases, and each of the
     /// other reasons is there in one of five, so that all sets of them arise;
-    /// the first in 01's order counts.
+    /// the first in 01's order counts. In one of twenty the arguments are
+    /// of no write, which comes before all reasons.
     pub fn random(rng: &mut Rng) -> WriteCase {
-        let mut plan = any_plan(rng).to_words().map(u64::from);
+        let mut plan = any_plan(rng).to_words().map(u64::from).to_vec();
         let (mut codes, mut numbers) = right_calls(rng);
         let mut short = false;
-        let mut expected = 0;
+        let mut expected = ACCEPTED;
         for number in [16, 15, 14] {
             if !rng.chance(20) {
                 continue;
@@ -58,7 +62,12 @@ impl WriteCase {
             }
         }
         if rng.chance(40) {
-            (plan, expected) = bad_plan(rng, false, &WIDE);
+            let (words, number) = bad_plan(rng, &WIDE);
+            (plan, expected) = (words.to_vec(), u64::from(number));
+        }
+        let answer = no_write(rng, &mut plan);
+        if answer == 0 || plan.len() != PLAN_NUMBERS {
+            expected = BAD_ARGUMENT;
         }
         let need = BEFORE_CALLS + 8 * codes.len();
         let room = room(rng, need, short);
@@ -67,6 +76,7 @@ impl WriteCase {
             codes,
             numbers,
             buffer: rng.bytes(room),
+            room: answer,
             expected,
         }
     }
@@ -100,6 +110,18 @@ impl WriteCase {
     }
 }
 
+/// At times arguments of no write: another count of the plan's numbers, or no
+/// room for the answer. Answers how many numbers are lent for it.
+fn no_write(rng: &mut Rng, plan: &mut Vec<u64>) -> usize {
+    match rng.below(60) {
+        0 => return 0,
+        1 => drop(plan.pop()),
+        2 => plan.push(0),
+        _ => {}
+    }
+    WRITE_NUMBERS + rng.below(3) as usize
+}
+
 /// The last word of 32 bits, the first number above it, and the last number.
 const WIDE: [u64; 3] = [(1 << 32) - 1, 1 << 32, u64::MAX];
 
@@ -107,6 +129,7 @@ const WIDE: [u64; 3] = [(1 << 32) - 1, 1 << 32, u64::MAX];
 fn room(rng: &mut Rng, need: usize, short: bool) -> usize {
     match (short, rng.below(3)) {
         (true, 0) => need - 1,
+        (true, 1) => rng.pick(&[0, 0, 63]).min(need - 1),
         (true, _) => rng.below(need as u64) as usize,
         (false, 0) => need,
         (false, _) => need + rng.between(1, 40) as usize,

@@ -3,7 +3,6 @@
 
 mod common;
 use common::*;
-use reference::coverage::{Coverage, TripEvents};
 use reference::matching::trace;
 use reference::meter::{Account, Answer};
 use reference::plan::Plan;
@@ -431,33 +430,26 @@ fn charged_seconds_are_held_against_each_other_by_stretches() {
     assert!(first.matches(&second));
 }
 
-/// The events of one call.
-fn events(account: &Account, call: Call) -> Coverage {
-    let mut now = account.clone();
-    let got = now.apply(call);
-    let mut events = TripEvents::default();
-    events.call(account, call, &got, &now);
-    let mut coverage = Coverage::new();
-    coverage.add(&events);
-    coverage
-}
-
 #[test]
 fn events_of_limits_tell_charged_seconds_alone() {
     let afford = Call::Afford(Kind::Outgoing);
     let mut account = all_but(priced_plan(), 20);
     run(&mut account, &[zone()]);
-    let refused = "refusal 5 by charged seconds alone";
+    let refused = "use 5 by charged seconds alone";
     let limited = "afford limited by charged seconds alone";
-    assert_eq!(events(&account, outgoing(20)).count(refused), 1);
-    assert_eq!(events(&account, outgoing(21)).count(refused), 0);
-    assert_eq!(events(&account, afford).count(limited), 1);
+    assert_eq!(events_of(&account, &[outgoing(20)]).count(refused), 1);
+    assert_eq!(events_of(&account, &[outgoing(21)]).count(refused), 0);
+    assert_eq!(events_of(&account, &[afford]).count(limited), 1);
     run(&mut account, &[elsewhere()]);
-    assert_eq!(events(&account, afford).count(limited), 0, "both limits");
-    let refused = "refusal 6 of a zone record affordable as spoken";
+    assert_eq!(
+        events_of(&account, &[afford]).count(limited),
+        0,
+        "both limits"
+    );
+    let refused = "use 6 of a zone record affordable as spoken";
     for (credit, n, count) in [(9, 1, 0), (10, 1, 1), (299, 29, 1), (299, 30, 0)] {
         let account = at(priced_plan(), credit, Place::Zone);
-        assert_eq!(events(&account, outgoing(n)).count("refusal 6"), 1);
-        assert_eq!(events(&account, outgoing(n)).count(refused), count);
+        assert_eq!(events_of(&account, &[outgoing(n)]).count("use 6"), 1);
+        assert_eq!(events_of(&account, &[outgoing(n)]).count(refused), count);
     }
 }

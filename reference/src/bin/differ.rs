@@ -1,27 +1,32 @@
-//! differ [--seed S] [--trips N] [--damaged N] [--seconds T]: random trips,
-//! files sound and damaged, and as many random writes as files, through the
-//! proved meter and this crate's; then the caps of every day up to 4,000 and
-//! of larger numbers. Ends with 1 if they disagree, if demand 3
-//! fails or if a run of full size or of some seconds misses an event, and with
-//! 2 if the proved library is missing.
+//! differ [--seed S] [--trips N] [--damaged N] [--accounts N] [--seconds T]: the
+//! caps of every day up to 4,000 and of larger numbers, random trips call by
+//! call, files sound and damaged, as many random writes as files, and accounts
+//! of any numbers, through the proved meter and this crate's. Ends with 1 if
+//! they disagree or if demand 3 fails, with 3 if an event was missed, and with 2
+//! if the proved library is missing. The processors share the work.
 
-use reference::coverage::EVENTS;
-use reference::differ::{Differ, Mismatch};
+use reference::coverage::events;
+use reference::differ::{Differ, Mismatch, ACCOUNTS_OF_A_SEED};
 use reference::planted::{chosen, Wrong};
-use reference::sides::proved;
+use reference::sides::{proved, Side};
 use std::process::ExitCode;
+use std::sync::atomic::{AtomicBool, AtomicU64, Ordering};
+use std::thread;
 use std::time::{Duration, Instant};
 
 const TRIPS: u64 = 20_000;
 const FILES: u64 = 20_000;
-const PROGRESS: Duration = Duration::from_secs(4);
-const USAGE: &str = "usage: differ [--seed S] [--trips N] [--damaged N] [--seconds T]";
+const ACCOUNTS: u64 = 200_000;
+const PROGRESS: Duration = Duration::from_secs(10);
+const USAGE: &str =
+    "usage: differ [--seed S] [--trips N] [--damaged N] [--accounts N] [--seconds T]";
 
 #[derive(Default)]
 struct Options {
     seed: Option<u64>,
     trips: Option<u64>,
     damaged: Option<u64>,
+    accounts: Option<u64>,
     seconds: Option<u64>,
 }
 
@@ -33,12 +38,46 @@ fn options() -> Option<Options> {
             "--seed" => &mut options.seed,
             "--trips" => &mut options.trips,
             "--damaged" => &mut options.damaged,
+            "--accounts" => &mut options.accounts,
             "--seconds" => &mut options.seconds,
             _ => return None,
         };
         *field = Some(args.next()?.parse().ok()?);
     }
     Some(options)
+}
+
+/// How many seeds there are for trips, for files and for accounts, from the
+/// first one on, and for how long.
+struct Goal {
+    seed: u64,
+    trips: u64,
+    files: u64,
+    accounts: u64,
+    time: Option<Duration>,
+}
+
+impl Goal {
+    /// What was asked for; without a number the usual one, and no end where
+    /// there is a time.
+    fn of(options: &Options) -> Goal {
+        let endless = options.seconds.is_some();
+        let goal = |asked: Option<u64>, usual: u64| {
+            let usual = if endless { u64::MAX } else { usual };
+            asked.unwrap_or(usual)
+        };
+        Goal {
+            seed: options.seed.unwrap_or(1),
+            trips: goal(options.trips, TRIPS),
+            files: goal(options.damaged, FILES),
+            accounts: goal(options.accounts, ACCOUNTS).div_ceil(ACCOUNTS_OF_A_SEED),
+            time: options.seconds.map(Duration::from_secs),
+        }
+    }
+
+    fn seeds(&self) -> u64 {
+        self.trips.max(self.files).max(self.accounts)
+    }
 }
 
 fn main() -> ExitCode {
@@ -54,100 +93,188 @@ fn main() -> ExitCode {
         let all = Wrong::ALL.len();
         eprintln!("differ: wrong rule {} of {all}, {rule:?}", rule as u32);
     }
-    let seed = options.seed.unwrap_or(1);
-    let endless = options.seconds.is_some();
-    let goal = |asked: Option<u64>, usual| asked.unwrap_or(if endless { u64::MAX } else { usual });
-    let (trips, files) = (goal(options.trips, TRIPS), goal(options.damaged, FILES));
-    let mut differ = Differ::new(other);
+    let goal = Goal::of(&options);
     let begun = Instant::now();
-    let outcome = run(&mut differ, seed, trips, files, options.seconds);
+    let (differ, found) = run(other, &goal);
     let took = begun.elapsed();
-    if let Err((place, at, mismatch)) = outcome {
-        report(&place, at, &mismatch);
+    if let Some(found) = found {
+        report(&found);
         print_times(&differ, took);
         println!("differ: {}, 1 mismatch", counts(&differ));
         return ExitCode::FAILURE;
     }
-    for event in EVENTS {
-        println!("{:6} {event}", differ.coverage.count(event));
+    let missing = print_events(&differ, goal.seed);
+    print_times(&differ, took);
+    println!("differ: {}, 0 mismatches", counts(&differ));
+    if missing == 0 {
+        ExitCode::SUCCESS
+    } else {
+        println!("differ: {missing} of {} events missed", events().len());
+        ExitCode::from(3)
     }
-    let missing = differ.coverage.missing();
+}
+
+/// How often each event was reached, and which were not; answers how many.
+fn print_events(differ: &Differ, seed: u64) -> usize {
+    let (coverage, events) = (differ.coverage(), events());
+    for event in &events {
+        println!("{:7} {event}", coverage.count(event));
+    }
+    let missing = coverage.missing(&events);
     for event in &missing {
         println!("missed from seed {seed}: {event}");
     }
-    print_times(&differ, took);
-    println!("differ: {}, 0 mismatches", counts(&differ));
-    let full = endless || (differ.trips >= TRIPS && differ.files >= FILES);
-    if full && !missing.is_empty() {
-        println!("differ: {} events missed", missing.len());
-        ExitCode::FAILURE
-    } else {
-        ExitCode::SUCCESS
-    }
+    missing.len()
 }
 
 fn counts(differ: &Differ) -> String {
     let Differ {
         trips,
         files,
+        accounts,
         writes,
-        one_by_one,
+        calls,
         days,
         ..
     } = differ;
     format!(
-        "{trips} trips, {files} files, {one_by_one} calls one by one, {writes} writes, {days} days"
+        "{trips} trips, {files} files, {accounts} accounts, {calls} calls one by one, \
+         {writes} writes, {days} days"
     )
 }
 
-/// Where a mismatch was found, its seed, and the mismatch.
-type Found = (String, u64, Box<Mismatch>);
-
-/// Trips and files in turn, one of each from a seed; then the days.
-fn run(
-    differ: &mut Differ,
+/// A mismatch, its seed, and what it was found in.
+struct Found {
     seed: u64,
-    trips: u64,
-    files: u64,
-    seconds: Option<u64>,
-) -> Result<(), Found> {
-    let (begun, mut shown) = (Instant::now(), Instant::now());
-    let limit = seconds.map(Duration::from_secs);
-    for at in seed.. {
-        let more = differ.trips < trips || differ.files < files;
-        if !more || limit.is_some_and(|limit| begun.elapsed() >= limit) {
-            break;
-        }
-        if differ.trips < trips {
-            let found = |mismatch| (format!("seed {at}, trip"), at, mismatch);
-            differ.trip(at).map_err(found)?;
-        }
-        if differ.files < files {
-            let found = |mismatch| (format!("seed {at}, file"), at, mismatch);
-            differ.file(at).map_err(found)?;
-            let found = |mismatch| (format!("seed {at}, write"), at, mismatch);
-            differ.write(at).map_err(found)?;
-        }
-        if shown.elapsed() >= PROGRESS {
-            shown = Instant::now();
-            let past = begun.elapsed().as_secs();
-            eprintln!("differ: {}, {past} s", counts(differ));
-        }
-    }
-    let found = |mismatch| (format!("seed {seed}, days"), seed, mismatch);
-    differ.days(seed).map_err(found)
+    what: &'static str,
+    mismatch: Box<Mismatch>,
 }
 
-/// Shows a mismatch and saves its file, if it has one.
-fn report(place: &str, seed: u64, mismatch: &Mismatch) {
-    println!("{place}: {}", mismatch.what);
+/// What the workers share: the next seed, counted from 0, and whether one of
+/// them has found a mismatch.
+struct Shared<'a> {
+    other: Side,
+    goal: &'a Goal,
+    begun: Instant,
+    next: AtomicU64,
+    over: AtomicBool,
+}
+
+/// The days; then a trip, a file, a write and accounts from each seed, shared
+/// out among the processors. Answers all that was done, and the mismatch of the
+/// first seed that has one.
+fn run(other: Side, goal: &Goal) -> (Differ, Option<Found>) {
+    let mut all = Differ::new(other);
+    if let Err(mismatch) = all.days(goal.seed) {
+        let (seed, what) = (goal.seed, "days");
+        return (
+            all,
+            Some(Found {
+                seed,
+                what,
+                mismatch,
+            }),
+        );
+    }
+    let shared = Shared {
+        other,
+        goal,
+        begun: Instant::now(),
+        next: AtomicU64::new(0),
+        over: AtomicBool::new(false),
+    };
+    let workers = thread::available_parallelism().map_or(1, usize::from);
+    let mut first: Option<Found> = None;
+    thread::scope(|scope| {
+        let shared = &shared;
+        let start = |worker| scope.spawn(move || some_seeds(shared, worker == 0));
+        let started: Vec<_> = (0..workers).map(start).collect();
+        for worker in started {
+            let (differ, found) = worker.join().expect("a comparison does not panic");
+            all.merge(&differ);
+            let earlier = |found: &Found| first.as_ref().is_none_or(|one| found.seed < one.seed);
+            if found.as_ref().is_some_and(earlier) {
+                first = found;
+            }
+        }
+    });
+    (all, first)
+}
+
+/// One worker: takes the next seed while there is one. The first also tells how
+/// far all have come.
+fn some_seeds(shared: &Shared, tells: bool) -> (Differ, Option<Found>) {
+    let mut differ = Differ::new(shared.other);
+    let mut shown = Instant::now();
+    loop {
+        let done = shared.next.fetch_add(1, Ordering::Relaxed);
+        let late = |time: Duration| shared.begun.elapsed() >= time;
+        let ends = done >= shared.goal.seeds() || shared.goal.time.is_some_and(late);
+        if ends || shared.over.load(Ordering::Relaxed) {
+            return (differ, None);
+        }
+        if let Err((what, mismatch)) = one_seed(&mut differ, done, shared.goal) {
+            shared.over.store(true, Ordering::Relaxed);
+            let seed = shared.goal.seed + done;
+            return (
+                differ,
+                Some(Found {
+                    seed,
+                    what,
+                    mismatch,
+                }),
+            );
+        }
+        if tells && shown.elapsed() >= PROGRESS {
+            shown = Instant::now();
+            let past = shared.begun.elapsed().as_secs();
+            eprintln!(
+                "differ: {done} seeds, {past} s; one worker: {}",
+                counts(&differ)
+            );
+        }
+    }
+}
+
+/// What there is of a seed, which is the first one and so many more.
+fn one_seed(
+    differ: &mut Differ,
+    done: u64,
+    goal: &Goal,
+) -> Result<(), (&'static str, Box<Mismatch>)> {
+    let seed = goal.seed + done;
+    if done < goal.trips {
+        differ.trip(seed).map_err(|found| ("trip", found))?;
+    }
+    if done < goal.files {
+        differ.file(seed).map_err(|found| ("file", found))?;
+        differ.write(seed).map_err(|found| ("write", found))?;
+    }
+    if done < goal.accounts {
+        differ.accounts(seed).map_err(|found| ("account", found))?;
+    }
+    Ok(())
+}
+
+/// Shows a mismatch, and saves its file, if it has one.
+fn report(found: &Found) {
+    let Found {
+        seed,
+        what,
+        mismatch,
+    } = found;
+    println!("seed {seed}, {what}: {}", mismatch.what);
+    let numbers = mismatch.account.iter().enumerate();
+    let some: Vec<String> = numbers
+        .filter(|(_, number)| **number != 0)
+        .map(|(at, number)| format!("{at}: {number}"))
+        .collect();
+    if !mismatch.account.is_empty() {
+        println!("account, all other numbers 0: {}", some.join(", "));
+    }
     if mismatch.file.is_empty() {
         return;
     }
-    let hex: Vec<String> = mismatch.file.iter().map(|b| format!("{b:02x}")).collect();
-    println!("file {}", hex.concat());
-    println!("reference:\n{}", mismatch.ours);
-    println!("proved:\n{}", mismatch.theirs);
     let name = format!("mismatch-{seed}.trip");
     match std::fs::write(&name, &mismatch.file) {
         Ok(()) => println!("saved as {name}"),
@@ -158,14 +285,15 @@ fn report(place: &str, seed: u64, mismatch: &Mismatch) {
 fn print_times(differ: &Differ, took: Duration) {
     let times = &differ.times;
     println!(
-        "{:.1?}: generation {:.1?}, reference {:.1?}, proved {:.1?}, pairs {:.1?}; \
-         {} calls, at most {} in a trip",
+        "{:.1?}: generation {:.1?}, trips {:.1?}, pairs {:.1?}, files {:.1?}, writes {:.1?}, \
+         accounts {:.1?}; at most {} calls in a list",
         took,
         times.generation,
-        times.reference,
-        times.other,
+        times.trips,
         times.pairs,
-        differ.calls,
+        times.files,
+        times.writes,
+        times.accounts,
         differ.longest
     );
 }

@@ -2,7 +2,7 @@
 //! check fails or an event is missed.
 
 use reference::check::{check_seed, Failure};
-use reference::coverage::{Coverage, EVENTS};
+use reference::coverage::{list_events, Coverage};
 use std::process::ExitCode;
 use std::sync::atomic::{AtomicU64, Ordering};
 use std::thread;
@@ -25,14 +25,15 @@ fn main() -> ExitCode {
             return ExitCode::FAILURE;
         }
     };
-    let missing = coverage.missing();
+    let events = list_events();
+    let missing = coverage.missing(&events);
     for event in &missing {
         println!("missed from seed {seed}: {event}");
     }
     println!(
         "selfcheck: {count} trips, {calls} calls, all checks hold, {} of {} events reached, {:.1?}",
-        EVENTS.len() - missing.len(),
-        EVENTS.len(),
+        events.len() - missing.len(),
+        events.len(),
         begun.elapsed()
     );
     if missing.is_empty() {

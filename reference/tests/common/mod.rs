@@ -1,8 +1,11 @@
 //! Helpers of the tests.
 #![allow(dead_code)]
 
+use reference::coverage::seen::{rest, Observed};
+use reference::coverage::{Coverage, TripEvents};
 use reference::meter::{Account, Answer};
 use reference::plan::{Plan, BUNDLE, PREPAID, UNLIMITED};
+use reference::sides::{Kept, Step};
 use reference::terms::{Call, Kind, Place};
 use reference::tripfile;
 
@@ -26,6 +29,22 @@ pub fn open(plan: Plan) -> Account {
 
 pub fn run(account: &mut Account, calls: &[Call]) -> Vec<Result<Answer, u32>> {
     calls.iter().map(|call| account.apply(*call)).collect()
+}
+
+/// The events of some calls on an account.
+pub fn events_of(account: &Account, calls: &[Call]) -> Coverage {
+    let mut kept = Kept::new(account.clone());
+    let mut events = TripEvents::default();
+    for call in calls {
+        let (step, before) = (Step::from(*call), *rest(&kept.numbers));
+        let mut answer = [0; 5];
+        let returned = kept.make(step, &mut answer);
+        let seen = Observed::new(step, returned, &answer, &before, &kept.numbers);
+        events.call(&seen).expect("a known return");
+    }
+    let mut coverage = Coverage::new();
+    coverage.add(&events);
+    coverage
 }
 
 /// Register, use of data and so on, in short.
