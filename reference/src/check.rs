@@ -246,13 +246,14 @@ pub fn check_pairs(
     demand(first.accounts == same.accounts, || {
         "rearranged uses: other accounts".to_string()
     })?;
-    events.pair(&first, &same, rearranged == case.calls);
+    let stretches = first.stretches();
+    events.pair(&stretches, &same.stretches(), rearranged == case.calls);
     let mut lists = vec![rearranged, matching::altered(rng, &case.calls)];
     lists.extend(matching::divided(rng, &case.calls));
     for calls in &lists[1..] {
         let other = matching::trace(case.plan, calls);
         demand(first.cuts == other.cuts, || "altered cuts".to_string())?;
-        events.pair(&first, &other, *calls == case.calls);
+        events.pair(&stretches, &other.stretches(), *calls == case.calls);
         demand(first.matches(&other), || "altered uses".to_string())?;
     }
     Ok(lists)

@@ -8,6 +8,47 @@ use crate::plan::Plan;
 use crate::rng::Rng;
 use crate::terms::{Call, Kind, Place};
 
+/// The cuts of a list, and for each stretch the units by kind and the charged
+/// outgoing seconds.
+#[derive(Clone, PartialEq, Eq, Debug)]
+pub struct Stretches {
+    pub cuts: Vec<Call>,
+    pub units: Vec<[u64; 4]>,
+    pub charged: Vec<u64>,
+}
+
+impl Default for Stretches {
+    /// Before the first call: one stretch, without units.
+    fn default() -> Stretches {
+        Stretches {
+            cuts: Vec::new(),
+            units: vec![[0; 4]],
+            charged: vec![0],
+        }
+    }
+}
+
+impl Stretches {
+    /// Adds an accepted call; `charged` is what a use was charged as.
+    pub fn add(&mut self, call: Call, charged: u64) {
+        let last = self.units.len() - 1;
+        match call {
+            Call::Use(kind, n) => {
+                self.units[last][kind as usize] += n;
+                if kind == Kind::Outgoing {
+                    self.charged[last] += charged;
+                }
+            }
+            Call::Register(_) | Call::TopUp(_) | Call::NextDay => {
+                self.cuts.push(call);
+                self.units.push([0; 4]);
+                self.charged.push(0);
+            }
+            Call::Afford(_) => {}
+        }
+    }
+}
+
 /// A list that was run: its cuts; for each stretch the units by kind, the
 /// charged outgoing seconds and the outgoing records made in the zone; and the
 /// account just before each cut and at the end.
@@ -67,6 +108,15 @@ impl Trace {
             }
             (Kind::Outgoing, false) => self.charged[last] += n,
             _ => {}
+        }
+    }
+
+    /// The same without accounts and records.
+    pub fn stretches(&self) -> Stretches {
+        Stretches {
+            cuts: self.cuts.clone(),
+            units: self.units.clone(),
+            charged: self.charged.clone(),
         }
     }
 

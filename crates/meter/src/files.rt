@@ -2,7 +2,6 @@
 use super::put_first;
 use super::put_number;
 use super::sound_held;
-use super::verdict_code;
 use reader::Step;
 use report::Figures;
 use report::Report;

@@ -7,13 +7,12 @@ pub mod files;
 pub mod opening;
 
 use state::Answer;
-use tariff::Verdict;
 ghost use mathlib.Core.Path.{_≡_};
 ghost use mathlib.Core.Bool.{cond};
 ghost use Prim.Native.Nat.{_+_, _≤_, _<_};
 ghost use mathlib.Core.List.{_∷_, []};
 ghost use lib.ListN.{length};
-ghost use Rattle.meter.specs.Answers.{laid, verdict-code, answer-code};
+ghost use Rattle.meter.specs.Answers.{laid, answer-code};
 ghost use Rattle.meter.specs.Calls.{sound-numbers};
 
 // Numbers into the first places of a list; those after them stay.
@@ -37,16 +36,6 @@ fn one_if(b: bool) -> u64
     ensures { λ r. ⌜ r ≡ cond b 1 0 ⌝ }
 {
     if b { 1 } else { 0 }
-}
-
-// What a verdict is returned as.
-fn verdict_code(v: Verdict) -> u64
-    ensures { λ r. ⌜ r ≡ verdict-code v ⌝ }
-{
-    match v {
-        Verdict::Accepted => 1000,
-        Verdict::Refused(n) => n,
-    }
 }
 
 // What a call's answer is returned as.

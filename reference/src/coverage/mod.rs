@@ -13,7 +13,7 @@ pub mod soundness;
 pub mod uses;
 pub mod writes;
 
-use crate::matching::Trace;
+use crate::matching::Stretches;
 use crate::terms::Kind;
 use std::collections::{BTreeMap, BTreeSet};
 
@@ -143,7 +143,7 @@ impl TripEvents {
     }
 
     /// A pair of lists with the same cuts, and whether the lists are the same.
-    pub fn pair(&mut self, first: &Trace, other: &Trace, lists_agree: bool) {
+    pub fn pair(&mut self, first: &Stretches, other: &Stretches, lists_agree: bool) {
         let units = first.units == other.units;
         let charged = first.charged == other.charged;
         let both = units && charged;
@@ -153,8 +153,8 @@ impl TripEvents {
             "the same units with other charged seconds",
             units && !charged,
         );
-        let outgoing = |trace: &Trace| {
-            let seconds = trace.units.iter().map(|of| of[Kind::Outgoing as usize]);
+        let outgoing = |list: &Stretches| {
+            let seconds = list.units.iter().map(|of| of[Kind::Outgoing as usize]);
             seconds.collect::<Vec<u64>>()
         };
         self.hit(

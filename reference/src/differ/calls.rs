@@ -7,6 +7,7 @@ use crate::check::Failure;
 use crate::coverage::returns::Function;
 use crate::coverage::seen::{rest, Observed};
 use crate::generate::Case;
+use crate::matching::Stretches;
 use crate::numbers::{account, Numbers, ACCOUNT_NUMBERS};
 use crate::rng::Rng;
 use crate::sides::{Kept, Side, Step, ACCEPTED};
@@ -19,6 +20,8 @@ pub struct Run {
     pub theirs: Lent,
     /// How many of the calls were refused that a trip file can hold.
     pub refused: u64,
+    /// The stretches so far, by what each side returned and answered.
+    pub stretches: [Stretches; 2],
 }
 
 impl Run {
@@ -28,6 +31,7 @@ impl Run {
             ours: Kept::new(account(numbers).expect("the numbers of an account")),
             theirs: Lent::new(numbers),
             refused: 0,
+            stretches: Default::default(),
         }
     }
 
@@ -57,6 +61,9 @@ impl Run {
                 &before[side],
                 now[side],
             ))?;
+            if let (ACCEPTED, Some(call)) = (given.returned, step.call()) {
+                self.stretches[side].add(call, given.answer[3]);
+            }
         }
         Ok(ours.returned)
     }

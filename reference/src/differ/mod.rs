@@ -17,6 +17,7 @@ use crate::generate::{self, Case};
 use crate::numbers::{Numbers, ACCOUNT_NUMBERS};
 use crate::rng::Rng;
 use crate::sides::Side;
+use calls::Run;
 use std::collections::BTreeSet;
 use std::time::{Duration, Instant};
 
@@ -185,10 +186,10 @@ impl Differ {
         let whole = self.trip_of(&case, file.as_deref(), &mut rng, &mut events);
         self.times.trips += begun.elapsed();
         let file = file.unwrap_or_default();
-        whole.map_err(|what| Mismatch::of_file(what, &file))?;
+        let run = whole.map_err(|what| Mismatch::of_file(what, &file))?;
         if paired {
             let begun = Instant::now();
-            let pairs = self.pairs(&case, &mut rng, &mut events);
+            let pairs = self.pairs(&case, &run, &mut rng, &mut events);
             self.times.pairs += begun.elapsed();
             pairs.map_err(|what| Mismatch::of_file(what, &file))?;
         }
@@ -202,29 +203,37 @@ impl Differ {
         file: Option<&[u8]>,
         rng: &mut Rng,
         events: &mut Both,
-    ) -> Result<(), Failure> {
+    ) -> Result<Run, Failure> {
         let run = self.list(case, rng, events)?;
-        match file {
-            Some(file) => self.whole_file(file, case, &run, rng, events),
-            None => Ok(()),
+        if let Some(file) = file {
+            self.whole_file(file, case, &run, rng, events)?;
         }
+        Ok(run)
     }
 
     /// Demand 3 for a list, one with the same stretches, one with a use altered
     /// and one with an outgoing zone record divided; the others go through the
     /// comparison as well.
-    fn pairs(&mut self, case: &Case, rng: &mut Rng, events: &mut Both) -> Result<(), Failure> {
+    fn pairs(
+        &mut self,
+        case: &Case,
+        run: &Run,
+        rng: &mut Rng,
+        events: &mut Both,
+    ) -> Result<(), Failure> {
         if case.calls.is_empty() {
             events.iter_mut().for_each(TripEvents::empty_list);
         }
-        let mut of_pairs = TripEvents::default();
-        let lists = check_pairs(case, rng, &mut of_pairs);
+        let lists = check_pairs(case, rng, &mut TripEvents::default());
         let lists = lists.map_err(|what| format!("demand 3: {what}"))?;
         for calls in lists {
             let plan = case.plan;
-            self.list(&Case { plan, calls }, rng, &mut Both::default())?;
+            let same = calls == case.calls;
+            let other = self.list(&Case { plan, calls }, rng, &mut Both::default())?;
+            for (side, events) in events.iter_mut().enumerate() {
+                events.pair(&run.stretches[side], &other.stretches[side], same);
+            }
         }
-        self.add(&[of_pairs.clone(), of_pairs]);
         Ok(())
     }
 }
