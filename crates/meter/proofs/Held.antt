@@ -196,4 +196,5 @@ refused-changes-no-number xs c h = go (is-account xs) refl h
     go false e k = refl
     go true e k =
         let n : accepts (account-from xs) c ≡ false = sym (taken-is (account-from xs) c) ∙ k in
-        ap account-numbers (unfold applied in refused-changes-nothing (account-from xs) c n) ∙ numbers-back xs e .back
+        let same : applied (account-from xs) c .account ≡ account-from xs = (unfold applied in refused-changes-nothing (account-from xs) c n) in
+        ap account-numbers same ∙ numbers-back xs e .back

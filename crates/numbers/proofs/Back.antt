@@ -2,11 +2,11 @@
 use Prim.Native.Nat.{ℕ, zero, suc, _+_, _*_, _-_, _/_, _%_, _≤_, _<_}
 use mathlib.Core.Path.{_≡_, refl, sym, _∙_, ap}
 use mathlib.Core.Bool.{Bool, true, false, cond, _&&_}
-use mathlib.Core.List.{List, [], _∷_, _++_}
+use mathlib.Core.List.{List, [], _∷_, _++_, append-nil}
 use native.Mathlib.Omega.{arith}
 use lib.Dec.{leb, eqb}
-use lib.ListN.{length, getD, take, drop, length-append}
-use lib.Seq.{getD-drop, drop-cons, take-all, take-at, drop-at}
+use lib.ListN.{length, getD, take, drop, length-append, take-append-drop, drop-of-length-le}
+use lib.Seq.{getD-drop, drop-cons, take-all, take-at, drop-at, length-take-le}
 use borrow.Author.Tests.{leb-true, le-leb, eqb-true, eqb-false, ne-eqb, eq-eqb}
 use Rattle.tariff.specs.declared.Form.{Form}
 use Rattle.tariff.specs.declared.Form.the-variants.{Prepaid, Bundle, Unlimited}
@@ -24,9 +24,9 @@ use Rattle.presence.specs.Log.{marks-number, numbers-of, day-from}
 use Rattle.presence.proofs.Numbers.{day-back}
 use Rattle.state.specs.declared.State.{State}
 use Rattle.account.specs.declared.Account.{Account}
-use Rattle.numbers.specs.Numbers.{place-number, place-from, allowance-number, allowance-from, service-number, service-from, state-numbers, state-from, log-part, rest-part, account-numbers, account-from, tags-known, is-account}
+use Rattle.numbers.specs.Numbers.{place-number, place-from, allowance-number, allowance-from, service-number, service-from, front-numbers, meters-numbers, quota-numbers, end-numbers, state-numbers, state-from, log-part, rest-part, account-numbers, account-from, tags-known, is-account}
 use Rattle.numbers.specs.Claims.{AccountBack, AccountOfItsNumbers, NumbersBack, NumbersOfTheirAccount}
-use Rattle.numbers.proofs.Laid.{log-length, rest-length, parts-join}
+use Rattle.numbers.proofs.Laid.{laid-five, log-length, rest-length, parts-join}
 
 form-back : (f : Form) → form-of (form-word f) ≡ f
 unfolding form-of
@@ -126,6 +126,26 @@ state-back a = unfold state-numbers in unfold numbers-of in λ j. record {
 pub state-length : (a : State) → length (state-numbers a) ≡ 50
 unfolding state-numbers numbers-of
 state-length a = refl
+
+day-length : (d : Day) → length (numbers-of d) ≡ 13
+unfolding numbers-of
+day-length d = refl
+
+-- a state's numbers, group by group behind the log
+pub state-laid : (s : List ℕ) (t : State) (a b c d e u v w x y : List ℕ) → length s ≡ 1649 → a ≡ front-numbers t → b ≡ meters-numbers (t .meters) → c ≡ quota-numbers (t .quota)
+    → d ≡ numbers-of (t .today) → e ≡ end-numbers t → u ≡ take 1599 s ++ (a ++ drop (1599 + length a) s) → v ≡ take 1612 u ++ (b ++ drop (1612 + length b) u)
+    → w ≡ take 1629 v ++ (c ++ drop (1629 + length c) v) → x ≡ take 1632 w ++ (d ++ drop (1632 + length d) w) → y ≡ take 1645 x ++ (e ++ drop (1645 + length e) x)
+    → y ≡ log-part s ++ state-numbers t
+unfolding log-part state-numbers
+state-laid s t a b c d e u v w x y h ha hb hc hd he g1 g2 g3 g4 g5 =
+    let la : 1599 + length a ≡ 1612 = omega (arith, ap length ha) in
+    let lb : 1612 + length b ≡ 1629 = omega (arith, ap length hb) in
+    let lc : 1629 + length c ≡ 1632 = omega (arith, ap length hc) in
+    let ld : 1632 + length d ≡ 1645 = omega (arith, ap length hd ∙ day-length (t .today)) in
+    let le : 1645 + length e ≡ 1649 = omega (arith, ap length he) in
+    laid-five s (take 1599 s) a b c d e u v w x y 1599 1612 1629 1632 1645 1649 (length-take-le 1599 s (omega arith)) la lb lc ld le (sym (take-append-drop 1599 s)) g1 g2 g3 g4 g5
+    ∙ (ap (λ (l : List ℕ). (take 1599 s ++ (a ++ (b ++ (c ++ (d ++ e))))) ++ l) (drop-of-length-le s {i = 1649} (omega arith))
+    ∙ (append-nil (take 1599 s ++ (a ++ (b ++ (c ++ (d ++ e))))) ∙ λ j. take 1599 s ++ (ha j ++ (hb j ++ (hc j ++ (hd j ++ he j))))))
 
 -- n numbers of a list, from number i on, one by one
 unfoldable spelled : ℕ → ℕ → List ℕ → List ℕ

@@ -83,18 +83,18 @@ abbrev pub services-numbers : Services → List ℕ
 services-numbers s =
     service-number (s .internet) ∷ service-number (s .calls) ∷ service-number (s .messages) ∷ []
 
+-- plan, day, place and money: 13 numbers
+abbrev pub front-numbers : State → List ℕ
+front-numbers a = plan-numbers (a .plan) ++ (a .day ∷ place-number (a .place) ∷ money-numbers (a .money))
+
+-- how many days are logged, and the services: 4 numbers
+abbrev pub end-numbers : State → List ℕ
+end-numbers a = a .logged ∷ services-numbers (a .services)
+
 -- all of the account but its log: 50 numbers. A new field's numbers come last
 unfoldable pub state-numbers : State → List ℕ
-state-numbers a =
-    plan-numbers (a .plan)
-    ++ (a .day
-    ∷ place-number (a .place)
-    ∷ (money-numbers (a .money)
-    ++ (meters-numbers (a .meters)
-    ++ (quota-numbers (a .quota)
-    ++ (numbers-of (a .today)
-    ++ (a .logged
-    ∷ services-numbers (a .services)))))))
+state-numbers a = front-numbers a
+    ++ (meters-numbers (a .meters) ++ (quota-numbers (a .quota) ++ (numbers-of (a .today) ++ end-numbers a)))
 
 -- the units of four numbers of a list, from number i on
 abbrev pub units-from : List ℕ → ℕ → Units

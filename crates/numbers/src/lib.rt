@@ -1,6 +1,7 @@
 // An account as 1,649 numbers: docs/LIBRARY.md has the layout.
 pub mod claims;
 
+use presence::Day;
 use presence::Location;
 use presence::ServiceState;
 use presence::Services;
@@ -20,7 +21,9 @@ ghost use lib.ListN.{length, take, drop};
 ghost use Rattle.tariff.specs.Plan.{form-word};
 ghost use Rattle.state.specs.Sound.{allowance-fits, warning-fits};
 ghost use Rattle.numbers.specs.Numbers.{place-number, place-from, allowance-number, allowance-from};
+ghost use Rattle.presence.specs.Log.{numbers-of};
 ghost use Rattle.numbers.specs.Numbers.{service-number, service-from, terms-from, money-from};
+ghost use Rattle.numbers.specs.Numbers.{front-numbers, meters-numbers, quota-numbers, end-numbers};
 ghost use Rattle.numbers.specs.Numbers.{meters-from, quota-from, services-from, state-numbers, state-from};
 ghost use Rattle.numbers.specs.Numbers.{log-part, rest-part, account-from, tags-known, is-account, Writable};
 
@@ -110,56 +113,47 @@ pub fn number_of_form(f: Form) -> u64
     }
 }
 
-// The numbers of all of an account but its log, group by group.
-fn numbers_of(a: State) -> [u64; 50]
-    requires { ⌜ Writable a ⌝ }
-    ensures { λ r. ⌜ r ≡ state-numbers a ⌝ }
+// Plan, day, place and money as numbers.
+fn front_of(a: State) -> [u64; 13]
+    ensures { λ r. ⌜ r ≡ front-numbers a ⌝ }
 {
-    let plan = a.plan;
-    let f = plan.form;
+    let p = a.plan;
+    let f = p.form;
     let form = number_of_form(f);
     let w = a.place;
     let place = number_of_location(w);
-    let money = a.money;
-    let meters = a.meters;
-    let used = meters.lifetime;
-    let billed = meters.billed;
-    let past = meters.surcharged;
-    let basis = meters.basis;
-    let quota = a.quota;
-    let l = quota.allowance;
-    let limit = number_of_allowance(l);
-    let today = a.today;
-    let marks = presence::log::marks_of(today);
-    let home = today.athome;
-    let zone = today.inzone;
-    let away = today.outside;
-    let services = a.services;
-    let s0 = services.internet;
-    let s1 = services.calls;
-    let s2 = services.messages;
-    let data = number_of_service(s0);
-    let calls = number_of_service(s1);
-    let sms = number_of_service(s2);
+    let m = a.money;
     [
         form,
-        plan.start,
-        plan.pergb,
-        plan.perminute,
-        plan.persms,
-        plan.fee,
-        plan.volume,
+        p.start,
+        p.pergb,
+        p.perminute,
+        p.persms,
+        p.fee,
+        p.volume,
         a.day,
         place,
-        money.credit,
-        money.paid,
-        money.homecharges,
-        money.surcharges,
+        m.credit,
+        m.paid,
+        m.homecharges,
+        m.surcharges,
+    ]
+}
+
+// The meters as numbers.
+fn meters_numbers(m: Meters) -> [u64; 17]
+    ensures { λ r. ⌜ r ≡ meters-numbers m ⌝ }
+{
+    let used = m.lifetime;
+    let billed = m.billed;
+    let past = m.surcharged;
+    let basis = m.basis;
+    [
         used.kb,
         used.outgoing,
         used.incoming,
         used.sms,
-        meters.chargedseconds,
+        m.chargedseconds,
         billed.kb,
         billed.outgoing,
         billed.incoming,
@@ -172,9 +166,18 @@ fn numbers_of(a: State) -> [u64; 50]
         basis.outgoing,
         basis.incoming,
         basis.sms,
-        quota.monthly,
-        quota.roamed,
-        limit,
+    ]
+}
+
+// A day as the log keeps it.
+fn day_numbers(d: Day) -> [u64; 13]
+    ensures { λ r. ⌜ r ≡ numbers-of d ⌝ }
+{
+    let marks = presence::log::marks_of(d);
+    let home = d.athome;
+    let zone = d.inzone;
+    let away = d.outside;
+    [
         marks,
         home.kb,
         home.outgoing,
@@ -188,11 +191,32 @@ fn numbers_of(a: State) -> [u64; 50]
         away.outgoing,
         away.incoming,
         away.sms,
-        a.logged,
-        data,
-        calls,
-        sms,
     ]
+}
+
+// H, R and L as numbers.
+fn quota_numbers(q: Quota) -> [u64; 3]
+    requires { ⌜ allowance-fits (q .allowance) ≡ true ⌝ }
+    ensures { λ r. ⌜ r ≡ quota-numbers q ⌝ }
+{
+    let l = q.allowance;
+    let limit = number_of_allowance(l);
+    [q.monthly, q.roamed, limit]
+}
+
+// How many days are logged, and the services, as numbers.
+fn end_of(a: State) -> [u64; 4]
+    requires { ⌜ Writable a ⌝ }
+    ensures { λ r. ⌜ r ≡ end-numbers a ⌝ }
+{
+    let services = a.services;
+    let s0 = services.internet;
+    let s1 = services.calls;
+    let s2 = services.messages;
+    let data = number_of_service(s0);
+    let calls = number_of_service(s1);
+    let sms = number_of_service(s2);
+    [a.logged, data, calls, sms]
 }
 
 // The terms of seven numbers, the first of a list.
@@ -349,11 +373,22 @@ pub fn put_numbers(s: &mut [u64], at: usize, xs: &[u64])
     }
 }
 
-// All but the log over the old numbers; the log stays.
+// All but the log over the old numbers, group by group; the log stays.
 pub fn put_state(account: &mut [u64], a: State)
     requires { ⌜ (length (now account) ≡ 1649) × Writable a ⌝ }
     ensures { λ _. ⌜ now (account .exit) ≡ log-part (now (account .entry)) ++ state-numbers a ⌝ }
 {
-    let xs = numbers_of(a);
-    put_numbers(account, 1599, &xs);
+    let front = front_of(a);
+    put_numbers(account, 1599, &front);
+    let m = a.meters;
+    let meters = meters_numbers(m);
+    put_numbers(account, 1612, &meters);
+    let q = a.quota;
+    let quota = quota_numbers(q);
+    put_numbers(account, 1629, &quota);
+    let d = a.today;
+    let today = day_numbers(d);
+    put_numbers(account, 1632, &today);
+    let end = end_of(a);
+    put_numbers(account, 1645, &end);
 }
