@@ -1,5 +1,5 @@
 //! Links the proved meter where its static library is there: in the directory
-//! that METER_LIB names, else where the repository builds it.
+//! that METER_LIB names, else where ./library puts it.
 
 use std::env;
 use std::path::{Path, PathBuf};
@@ -10,7 +10,7 @@ fn main() {
     println!("cargo:rerun-if-env-changed=METER_LIB");
     let directory = match env::var_os("METER_LIB") {
         Some(named) => PathBuf::from(named),
-        None => own_path("CARGO_MANIFEST_DIR").join("../target/staticlib"),
+        None => own_path("CARGO_MANIFEST_DIR").join("../lib"),
     };
     let library = directory.join("libmeter.a");
     println!("cargo:rerun-if-changed={}", library.display());

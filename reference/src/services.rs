@@ -41,8 +41,9 @@ impl Day {
     /// "It counts as home if marked home or elsewhere, else zone if marked
     /// zone, else off."
     pub fn counts_as(&self) -> DayCount {
-        let elsewhere = self.marks[Place::Elsewhere as usize] && !planted(Wrong::ElsewhereDayOff);
-        if self.marks[Place::Home as usize] || elsewhere {
+        let elsewhere =
+            || self.marks[Place::Elsewhere as usize] && !planted(Wrong::ElsewhereDayOff);
+        if self.marks[Place::Home as usize] || elsewhere() {
             DayCount::Home
         } else if self.marks[Place::Zone as usize] {
             DayCount::Zone
