@@ -1,5 +1,6 @@
-# Used by ./statement, ./explain and ./test: the toolchain's version, one build at a time, and a build that shows how far it is.
-# `here` is the top of the repository. What is said of the work goes to standard error.
+# Used by ./statement, ./explain, ./library and ./test: the toolchain's version, one build at a time, and a build that
+# shows how far it is. `here` is the top of the repository, and `name` the command that builds. What is said of the work
+# goes to standard error.
 
 logs=$here/logs
 
@@ -34,47 +35,57 @@ count_of() { # NAME
         END { visit(want); print count + 0 }' "$here/crates.txt"
 }
 
-# Was the program built from the sources as they are, with this toolchain?
-fresh() { # NAME
-    [ -x "$here/target/bin/$1" ] && [ -f "$here/target/built-$1" ] || return 1
+# Was RESULT, a file that is built of the crate, built from the sources as they are, with this toolchain?
+fresh() { # CRATE RESULT
+    [ -s "$here/$2" ] && [ -f "$here/target/built-$1" ] || return 1
     now=$(rt version 2>/dev/null) && [ "$now" != "$(cat "$here/target/built-$1")" ] && return 1
     changed=$(find "$here/crates.txt" "$here/crates" \( -name edits -o -name must-fail \) -prune -o \
         -newer "$here/target/built-$1" -print 2>/dev/null | head -n 1)
     [ -z "$changed" ]
 }
 
-# Shows each crate of a build as it ends; those that did not change are only counted.
-show_build() { # NAME COUNT
+# Shows each crate of a build as it ends; those that did not change are only counted. The last one of an archive is
+# shown when it begins, too.
+show_build() { # CRATE COUNT COMMAND
     number=0
     while IFS= read -r line; do
         case $line in
         'rt: '*' proved (unchanged'*) number=$((number + 1)) ;;
         'rt: '*' proved ('* | 'rt: '*' NOT PROVED'*)
             number=$((number + 1))
-            echo "$1: crate $number of $2: ${line#rt: }" >&2
+            echo "$name: crate $number of $2: ${line#rt: }" >&2
             ;;
+        'rt: target/staticlib/'*)
+            echo "$name: crate $2 of $2: $1 proved, and its archive built" >&2
+            continue
+            ;;
+        *) continue ;;
         esac
+        if [ "$3" = staticlib ] && [ "$number" -eq $(($2 - 1)) ]; then
+            echo "$name: crate $2 of $2: proving $1 and building its archive, which takes about a minute" >&2
+        fi
     done
 }
 
-# Builds the program NAME where it is missing or older than its sources.
-built() { # NAME
-    ! fresh "$1" || return 0
-    command -v rt >/dev/null || { echo "$1: the program has to be built, and rt is not on the path" >&2; return 1; }
-    lock "$1" || { echo "$1: cannot lock $logs/lock" >&2; return 1; }
-    if fresh "$1"; then # another build was waited for
+# Builds RESULT of the crate with rt COMMAND, where it is missing or older than its sources.
+built() { # CRATE COMMAND RESULT
+    ! fresh "$1" "$3" || return 0
+    command -v rt >/dev/null || { echo "$name: $3 has to be built, and rt is not on the path" >&2; return 1; }
+    lock "$name" || { echo "$name: cannot lock $logs/lock" >&2; return 1; }
+    if fresh "$1" "$3"; then # another build was waited for
         exec 9>&-
         return 0
     fi
     what=$(other_toolchain)
-    [ -z "$what" ] || echo "$1: warning: $what" >&2
-    log=$logs/build-$1.log
-    echo "$1: building, as the program is missing or its sources changed; from nothing it takes some minutes" >&2
-    mkdir -p "$here/target"
+    [ -z "$what" ] || echo "$name: warning: $what" >&2
+    log=$logs/build-$name.log
+    echo "$name: building, as $3 is missing or its sources changed; from nothing it takes some minutes" >&2
+    mkdir -p "$here/target" "$logs"
     rt version >"$here/target/.began-$1"
-    { (cd "$here" && rt check "$1") </dev/null 2>&1; echo "exit $?"; } | tee "$log" | show_build "$1" "$(count_of "$1")"
-    if [ "$(tail -n 1 "$log")" != "exit 0" ] || [ ! -x "$here/target/bin/$1" ]; then
-        echo "$1: the build failed; the last lines of $log:" >&2
+    { (cd "$here" && rt "$2" "$1") </dev/null 2>&1; echo "exit $?"; } | tee "$log" |
+        show_build "$1" "$(count_of "$1")" "$2"
+    if [ "$(tail -n 1 "$log")" != "exit 0" ] || [ ! -s "$here/$3" ]; then
+        echo "$name: the build failed; the last lines of $log:" >&2
         tail -n 12 "$log" | cut -c 1-200 | sed 's/^/    /' >&2
         return 1
     fi

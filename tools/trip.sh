@@ -37,7 +37,7 @@ take_input() { # [--] [FILE]
 # Builds the program where it has to be, and runs it on the input: `text` is what it printed.
 run_program() {
     . "$here/tools/build.sh"
-    built "$name" || exit 2
+    built "$name" check "target/bin/$name" || exit 2
     # No file has more than 65,536 bytes, so that a few more are enough to tell a longer one.
     text=$({ { head -c 65540 || echo 'no input' >&3; } | "$here/target/bin/$name" || echo 'no end' >&3; } 3>&1)
     case $text in

@@ -81,11 +81,12 @@ pub fn open_with(p: Plan) -> StateOpened
     }
 }
 
-// Each call on all of an account but its log, with the log lent: the methods and the replay of lists share them, and
-// the log stays where it is.
+// Each call on all of an account but its log, with the log lent, 1,599 numbers: the methods and the replay of lists
+// share them, and the log stays where it is.
 
 // Is the account sound? Any values will do.
-pub fn parts_fit(state: State, log: &[u64; 1599]) -> bool
+pub fn parts_fit(state: State, log: &[u64]) -> bool
+    requires { ⌜ length (now log) ≡ 1599 ⌝ }
     ensures { λ r. ⌜ r ≡ sound (account-of state (now (log .entry))) ⌝ }
 {
     if !state::sound::counters_fit(state) {
@@ -98,8 +99,8 @@ pub fn parts_fit(state: State, log: &[u64; 1599]) -> bool
 }
 
 // A registration on a sound account.
-fn register_sound(state: State, log: &[u64; 1599], p: Place) -> StateApplied
-    requires { ⌜ sound (account-of state (now log)) ≡ true ⌝ }
+fn register_sound(state: State, log: &[u64], p: Place) -> StateApplied
+    requires { ⌜ (length (now log) ≡ 1599) × (sound (account-of state (now log)) ≡ true) ⌝ }
     ensures { λ r. ⌜ r ≡ applied-state (applied (account-of state (now (log .entry))) (Call.Register p)) ⌝ }
 {
     let next = state::moves::registered_at(state, p);
@@ -110,7 +111,8 @@ fn register_sound(state: State, log: &[u64; 1599], p: Place) -> StateApplied
 }
 
 // Refusal 0.
-pub fn register_with(state: State, log: &[u64; 1599], p: Place) -> StateApplied
+pub fn register_with(state: State, log: &[u64], p: Place) -> StateApplied
+    requires { ⌜ length (now log) ≡ 1599 ⌝ }
     ensures { λ r. ⌜ r ≡ applied-state (applied (account-of state (now (log .entry))) (Call.Register p)) ⌝ }
 {
     if !parts_fit(state, log) {
@@ -123,15 +125,16 @@ pub fn register_with(state: State, log: &[u64; 1599], p: Place) -> StateApplied
 }
 
 // A use on a sound account: refusals 3, 4, 5, 6.
-fn use_sound(state: State, log: &[u64; 1599], k: Kind, n: u64) -> StateApplied
-    requires { ⌜ sound (account-of state (now log)) ≡ true ⌝ }
+fn use_sound(state: State, log: &[u64], k: Kind, n: u64) -> StateApplied
+    requires { ⌜ (length (now log) ≡ 1599) × (sound (account-of state (now log)) ≡ true) ⌝ }
     ensures { λ r. ⌜ r ≡ applied-state (applied (account-of state (now (log .entry))) (Call.Use k n)) ⌝ }
 {
     state::charging::use_of(state, k, n)
 }
 
 // Refusals 0, 3, 4, 5, 6.
-pub fn use_with(state: State, log: &[u64; 1599], k: Kind, n: u64) -> StateApplied
+pub fn use_with(state: State, log: &[u64], k: Kind, n: u64) -> StateApplied
+    requires { ⌜ length (now log) ≡ 1599 ⌝ }
     ensures { λ r. ⌜ r ≡ applied-state (applied (account-of state (now (log .entry))) (Call.Use k n)) ⌝ }
 {
     if !parts_fit(state, log) {
@@ -144,8 +147,8 @@ pub fn use_with(state: State, log: &[u64; 1599], k: Kind, n: u64) -> StateApplie
 }
 
 // A top-up of a sound account: refusals 7, 8.
-fn top_up_sound(state: State, log: &[u64; 1599], n: u64) -> StateApplied
-    requires { ⌜ sound (account-of state (now log)) ≡ true ⌝ }
+fn top_up_sound(state: State, log: &[u64], n: u64) -> StateApplied
+    requires { ⌜ (length (now log) ≡ 1599) × (sound (account-of state (now log)) ≡ true) ⌝ }
     ensures { λ r. ⌜ r ≡ applied-state (applied (account-of state (now (log .entry))) (Call.TopUp n)) ⌝ }
 {
     if !state::charging::within(1, n, 10000000) {
@@ -168,7 +171,8 @@ fn top_up_sound(state: State, log: &[u64; 1599], n: u64) -> StateApplied
 }
 
 // Refusals 0, 7, 8.
-pub fn top_up_with(state: State, log: &[u64; 1599], n: u64) -> StateApplied
+pub fn top_up_with(state: State, log: &[u64], n: u64) -> StateApplied
+    requires { ⌜ length (now log) ≡ 1599 ⌝ }
     ensures { λ r. ⌜ r ≡ applied-state (applied (account-of state (now (log .entry))) (Call.TopUp n)) ⌝ }
 {
     if !parts_fit(state, log) {
@@ -181,7 +185,7 @@ pub fn top_up_with(state: State, log: &[u64; 1599], n: u64) -> StateApplied
 }
 
 // A day change of a sound account: refusal 9.
-fn next_day_sound(state: State, log: &mut [u64; 1599]) -> StateApplied
+fn next_day_sound(state: State, log: &mut [u64]) -> StateApplied
     requires { ⌜ (length (now log) ≡ 1599) × (sound (account-of state (now log)) ≡ true) ⌝ }
     ensures answer { λ r. ⌜ r ≡ applied-state (applied (account-of state (now (log .entry))) Call.NextDay) ⌝ }
     ensures shifted { λ _. ⌜ now (log .exit) ≡ step (account-of state (now (log .entry))) Call.NextDay .log ⌝ }
@@ -201,7 +205,7 @@ fn next_day_sound(state: State, log: &mut [u64; 1599]) -> StateApplied
 }
 
 // Refusals 0, 9.
-pub fn next_day_with(state: State, log: &mut [u64; 1599]) -> StateApplied
+pub fn next_day_with(state: State, log: &mut [u64]) -> StateApplied
     requires { ⌜ length (now log) ≡ 1599 ⌝ }
     ensures answer { λ r. ⌜ r ≡ applied-state (applied (account-of state (now (log .entry))) Call.NextDay) ⌝ }
     ensures shifted { λ _. ⌜ now (log .exit) ≡ step (account-of state (now (log .entry))) Call.NextDay .log ⌝ }
@@ -215,9 +219,18 @@ pub fn next_day_with(state: State, log: &mut [u64; 1599]) -> StateApplied
     next_day_sound(state, log)
 }
 
+// The same with the log as an account holds it, an array, which may not be lent as a slice from where it is held.
+fn next_day_held(state: State, log: &mut [u64; 1599]) -> StateApplied
+    requires { ⌜ length (now log) ≡ 1599 ⌝ }
+    ensures answer { λ r. ⌜ r ≡ applied-state (applied (account-of state (now (log .entry))) Call.NextDay) ⌝ }
+    ensures shifted { λ _. ⌜ now (log .exit) ≡ step (account-of state (now (log .entry))) Call.NextDay .log ⌝ }
+{
+    next_day_with(state, log)
+}
+
 // Afford on a sound account: refusal 3.
-fn afford_sound(state: State, log: &[u64; 1599], k: Kind) -> Answer
-    requires { ⌜ sound (account-of state (now log)) ≡ true ⌝ }
+fn afford_sound(state: State, log: &[u64], k: Kind) -> Answer
+    requires { ⌜ (length (now log) ≡ 1599) × (sound (account-of state (now log)) ≡ true) ⌝ }
     ensures { λ r. ⌜ r ≡ applied (account-of state (now (log .entry))) (Call.Afford k) .answer ⌝ }
 {
     let place = state.place;
@@ -229,7 +242,8 @@ fn afford_sound(state: State, log: &[u64; 1599], k: Kind) -> Answer
 }
 
 // Refusals 0, 3.
-pub fn afford_with(state: State, log: &[u64; 1599], k: Kind) -> Answer
+pub fn afford_with(state: State, log: &[u64], k: Kind) -> Answer
+    requires { ⌜ length (now log) ≡ 1599 ⌝ }
     ensures { λ r. ⌜ r ≡ applied (account-of state (now (log .entry))) (Call.Afford k) .answer ⌝ }
 {
     if !parts_fit(state, log) {
@@ -250,7 +264,7 @@ fn afford_applied(state: State, x: Answer) -> StateApplied
 
 // One call of any kind on an account that is known to be sound, so that it need not be looked at again: every call
 // leaves it sound.
-pub fn call_sound(state: State, log: &mut [u64; 1599], c: Call) -> StateApplied
+pub fn call_sound(state: State, log: &mut [u64], c: Call) -> StateApplied
     requires { ⌜ (length (now log) ≡ 1599) × (sound (account-of state (now log)) ≡ true) ⌝ }
     ensures answer { λ r. ⌜ r ≡ applied-state (applied (account-of state (now (log .entry))) c) ⌝ }
     ensures shifted { λ _. ⌜ now (log .exit) ≡ step (account-of state (now (log .entry))) c .log ⌝ }
@@ -265,7 +279,7 @@ pub fn call_sound(state: State, log: &mut [u64; 1599], c: Call) -> StateApplied
 }
 
 // One call of any kind.
-pub fn call_with(state: State, log: &mut [u64; 1599], c: Call) -> StateApplied
+pub fn call_with(state: State, log: &mut [u64], c: Call) -> StateApplied
     requires { ⌜ length (now log) ≡ 1599 ⌝ }
     ensures answer { λ r. ⌜ r ≡ applied-state (applied (account-of state (now (log .entry))) c) ⌝ }
     ensures shifted { λ _. ⌜ now (log .exit) ≡ step (account-of state (now (log .entry))) c .log ⌝ }
@@ -279,12 +293,21 @@ pub fn call_with(state: State, log: &mut [u64; 1599], c: Call) -> StateApplied
     call_sound(state, log, c)
 }
 
+// The same with the log as an account holds it.
+fn call_held(state: State, log: &mut [u64; 1599], c: Call) -> StateApplied
+    requires { ⌜ length (now log) ≡ 1599 ⌝ }
+    ensures answer { λ r. ⌜ r ≡ applied-state (applied (account-of state (now (log .entry))) c) ⌝ }
+    ensures shifted { λ _. ⌜ now (log .exit) ≡ step (account-of state (now (log .entry))) c .log ⌝ }
+{
+    call_with(state, log, c)
+}
+
 // One call of any kind on a whole account.
 pub fn apply(mut a: Account, c: Call) -> Applied
     ensures { λ r. ⌜ r ≡ applied a c ⌝ }
 {
     let state = a.state;
-    let done = call_with(state, &mut a.log, c);
+    let done = call_held(state, &mut a.log, c);
     let answer = done.answer;
     let next = done.state;
     a.state = next;
@@ -371,7 +394,7 @@ impl Account {
         ensures { λ r. ⌜ r ≡ applied self Call.NextDay ⌝ }
     {
         let state = self.state;
-        let done = next_day_with(state, &mut self.log);
+        let done = next_day_held(state, &mut self.log);
         let answer = done.answer;
         let next = done.state;
         self.state = next;

@@ -1,2 +1,3 @@
-pub mod Found
-pub mod Same
+pub mod Held
+pub mod Open
+pub mod Ran

@@ -1,4 +1,4 @@
-pub mod Caps
-pub mod Finder
-pub mod Numbers
-pub mod Writer
+pub mod Answers
+pub mod Calls
+pub mod Files
+pub mod Claims

@@ -97,6 +97,10 @@ days-empty = refl
 at-place : (i k m : ℕ) (xs : List ℕ) → 13 * i + k ≡ m → getD (drop (13 * i) xs) k 0 ≡ getD xs m 0
 at-place i k m xs e = getD-drop (13 * i) xs k 0 ∙ ap (λ (j : ℕ). getD xs j 0) e
 
+pub day-placed : (i : ℕ) (xs : List ℕ) → i < 123 → day-from (drop (13 * i) xs) ≡ getD (days-of xs) i empty-day
+unfolding days-of
+day-placed i xs h = sym (day-in 123 i xs h)
+
 -- what is read at day i's places is day i
 pub day-at-is : (i : ℕ) (xs : List ℕ) → i < 123 → getD (days-of xs) i empty-day ≡ record {
   home = eqb (getD xs (13 * i) 0 % 2) 1;

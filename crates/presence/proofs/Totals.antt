@@ -1,13 +1,16 @@
 -- The sums of a window, one day at a time, and that those of a sound log stay small. Assumes nothing.
-use Prim.Native.Nat.{ℕ, zero, suc, _+_, _-_, _≤_, _<_}
-use mathlib.Core.Path.{_≡_, refl}
+use Rattle.presence.specs.declared.Column.the-variants.{ZoneUnits, OtherUnits}
+use Rattle.presence.specs.declared.Column.{Column}
+use Prim.Native.Nat.{ℕ, zero, suc, _+_, _-_, _*_, _≤_, _<_}
+use mathlib.Core.Path.{_≡_, refl, sym, _∙_, ap}
 use mathlib.Core.Bool.{Bool, true, false, _&&_, _||_}
-use mathlib.Core.List.{List}
+use mathlib.Core.List.{List, map}
 use native.Mathlib.Omega.{arith}
-use native.Mathlib.Numerals.{sub-one}
-use lib.Dec.{leb, ltb}
-use lib.ListN.{getD}
-use borrow.Author.Tests.{le-leb, ltb-false}
+use native.Mathlib.Numerals.{add-one, sub-one}
+use lib.Dec.{eqb, leb, ltb}
+use lib.ListN.{getD, set, length, List·getD-map, length-set}
+use lib.Seq.{getD-set-same, getD-set-other}
+use borrow.Author.Tests.{le-leb, ltb-false, eqb-true, eqb-false}
 use Rattle.tariff.specs.declared.Units.{Units}
 use Rattle.presence.specs.declared.Day.{Day}
 use Rattle.presence.specs.declared.DayKind.{DayKind}
@@ -19,9 +22,10 @@ use Rattle.presence.specs.declared.ServiceState.the-variants.{Clear, War
 use Rattle.presence.specs.Day.{empty-day, day-units, zone-day, one-if-zone, on-day, one-if-on, counts-as}
 use Rattle.presence.specs.Window.{zone-units, other-units, sum-days, prevalent, prevalent-long, prevalent-short}
 use Rattle.presence.specs.Service.{state-step, next-state}
-use Rattle.presence.specs.Log.{units-over}
-use Rattle.presence.specs.Held.{Low, long-asked, short-asked}
+use Rattle.presence.specs.Log.{days-of, units-over}
+use Rattle.presence.specs.Held.{Low, SameMarks, marked-day, long-asked, short-asked, column, InColumn, sum-first}
 use Rattle.presence.proofs.Logs.{over-at, over-fewer}
+use Rattle.presence.proofs.Numbers.{day-at-is}
 
 -- what a window may add up: of a day, no more than its units, and 1
 abbrev pub Moderate : (Day → ℕ) → Type 0
@@ -50,6 +54,28 @@ pub sum-more : (f : Day → ℕ) (w : ℕ) (ds : List Day) → (w ≡ 0 → ⊥)
 unfolding sum-days
 sum-more f zero ds h = absurd (h refl)
 sum-more f (suc w) ds h = rw (sub-one (suc w)) refl
+
+-- a count asks only for the marks, so that of the marks is that of the days
+same-sums : (f : Day → ℕ) (w : ℕ) (ds es : List Day) → ((k : ℕ) → k < w → f (getD ds k empty-day) ≡ f (getD es k empty-day)) → sum-days f w ds ≡ sum-days f w es
+unfolding sum-days
+same-sums f zero ds es h = refl
+same-sums f (suc w) ds es h = rw (h w (omega arith), same-sums f w ds es (λ k l. h k (omega arith))) refl
+
+pub zone-marked : (w : ℕ) (xs ms : List ℕ) → w ≤ 123 → SameMarks w xs ms → sum-days zone-day w (map marked-day ms) ≡ sum-days zone-day w (days-of xs)
+unfolding zone-day counts-as
+zone-marked w xs ms h s = same-sums zone-day w (map marked-day ms) (days-of xs) (λ k l. ap zone-day (List·getD-map marked-day ms k 0) ∙ ap (λ (m : ℕ). zone-day (marked-day m)) (s k l) ∙ sym (ap zone-day (day-at-is k xs (omega arith))))
+
+pub on-marked : (w : ℕ) (xs ms : List ℕ) → w ≤ 123 → SameMarks w xs ms → sum-days on-day w (map marked-day ms) ≡ sum-days on-day w (days-of xs)
+unfolding on-day counts-as
+on-marked w xs ms h s = same-sums on-day w (map marked-day ms) (days-of xs) (λ k l. ap on-day (List·getD-map marked-day ms k 0) ∙ ap (λ (m : ℕ). on-day (marked-day m)) (s k l) ∙ sym (ap on-day (day-at-is k xs (omega arith))))
+
+-- the marks, one day more
+pub marks-more : (i : ℕ) (xs ms : List ℕ) → i < length ms → SameMarks i xs ms → SameMarks (i + 1) xs (set ms i (getD xs (13 * i) 0))
+marks-more i xs ms h s k l = go (eqb k i) refl
+  where
+    go : (b : Bool) → eqb k i ≡ b → getD (set ms i (getD xs (13 * i) 0)) k 0 ≡ getD xs (13 * k) 0
+    go true q = rw (eqb-true k i q) (getD-set-same ms i (getD xs (13 * i) 0) 0 h)
+    go false q = let n = eqb-false k i q in getD-set-other ms i k (getD xs (13 * i) 0) 0 n ∙ s k (omega (arith, n))
 
 -- no sum over the logged days is above their units, and no count above the days
 sum-bounded : (f : Day → ℕ) → Moderate f → (w : ℕ) (ds : List Day) → sum-days f w ds ≤ total (units-over w ds) + w
@@ -115,3 +141,33 @@ pub asked-third : (x y z : Bool) → z ≡ true → x || y || z ≡ true
 asked-third true y z e = refl
 asked-third false true z e = refl
 asked-third false false z e = e
+
+-- ---- a sum over an array of what the days add
+
+pub sum-first-none : (w : ℕ) (xs : List ℕ) → w ≡ 0 → sum-first w xs ≡ 0
+unfolding sum-first
+sum-first-none w xs e = rw e refl
+
+pub sum-first-more : (w : ℕ) (xs : List ℕ) → (w ≡ 0 → ⊥) → sum-first w xs ≡ getD xs (w - 1) 0 + sum-first (w - 1) xs
+unfolding sum-first
+sum-first-more zero xs h = absurd (h refl)
+sum-first-more (suc w) xs h = rw (sub-one (suc w)) refl
+
+pub column-summed : (c : Column) (w : ℕ) (ds : List Day) (xs : List ℕ) → InColumn c w ds xs → sum-first w xs ≡ sum-days (column c) w ds
+unfolding sum-first sum-days
+column-summed c zero ds xs f = refl
+column-summed c (suc w) ds xs f =
+    rw (f .filled w (omega arith), column-summed c w ds xs (record { places = f .places; filled = λ i h. f .filled i (omega arith) })) refl
+
+-- no such sum is large
+pub column-small : (c : Column) (w : ℕ) (ds : List Day) → w ≤ 123 → Low (units-over w ds) → sum-days (column c) w ds ≤ 5000000000000
+column-small (ZoneUnits s) w ds h l = sum-small (zone-units s) (zone-moderate s) w ds h l
+column-small (OtherUnits s) w ds h l = sum-small (other-units s) (other-moderate s) w ds h l
+
+-- one day more
+pub column-more : (c : Column) (i : ℕ) (ds : List Day) (xs : List ℕ) (x : ℕ) → i < 123 → InColumn c i ds xs → x ≡ column c (getD ds i empty-day) → InColumn c (i + 1) ds (set xs i x)
+column-more c i ds xs x h f e = record { places = length-set xs i x ∙ f .places; filled = λ k l. go k l (eqb k i) refl }
+  where
+    go : (k : ℕ) → k < i + 1 → (b : Bool) → eqb k i ≡ b → getD (set xs i x) k 0 ≡ column c (getD ds k empty-day)
+    go k l true q = rw (eqb-true k i q) (getD-set-same xs i x 0 (omega (arith, f .places)) ∙ e)
+    go k l false q = let n = eqb-false k i q in getD-set-other xs i k x 0 n ∙ f .filled k (omega (arith, n))

@@ -1,20 +1,23 @@
 -- What the code's own helpers ask and answer: joined bits of numbers, sums that stay small, windows that a step asks
 -- for. Assumes nothing.
-use Prim.Native.Nat.{ℕ, zero, suc, _+_, _*_, _<_}
+use Prim.Native.Nat.{ℕ, zero, suc, _+_, _*_, _/_, _%_, _<_}
+use mathlib.Core.Path.{_≡_}
 use mathlib.Core.Bool.{Bool, true, false, _&&_}
 use mathlib.Core.List.{List}
 use lib.Bits.{bitOr}
-use lib.Dec.{leb}
-use lib.ListN.{getD}
+use lib.Dec.{eqb, leb}
+use lib.ListN.{getD, length}
 use Rattle.tariff.specs.declared.Units.{Units}
-use Rattle.tariff.specs.Units.{each, AtMost}
+use Rattle.tariff.specs.Units.{each, zero-units, AtMost}
+use Rattle.presence.specs.declared.Column.{Column}
+use Rattle.presence.specs.declared.Column.the-variants.{ZoneUnits, OtherUnits}
 use Rattle.presence.specs.declared.Day.{Day}
 use Rattle.presence.specs.declared.Prevalent.{Prevalent}
 use Rattle.presence.specs.declared.ServiceState.{ServiceState}
 use Rattle.presence.specs.declared.ServiceState.the-variants.{Clear, Warned, Surcharged}
 use Rattle.presence.specs.declared.Service.{Service}
 use Rattle.presence.specs.declared.Service.the-variants.{DataService, CallService, SmsService}
-use Rattle.presence.specs.Day.{zone-day, on-day}
+use Rattle.presence.specs.Day.{empty-day, zone-day, on-day}
 use Rattle.presence.specs.Log.{lifetime-most}
 use Rattle.presence.specs.Window.{zone-units, other-units, sum-days, prevailing, prevalent}
 
@@ -43,6 +46,20 @@ place-from from xs i = getD xs (from + i) 0
 abbrev pub marks-kept : List ℕ → ℕ → ℕ
 marks-kept xs i = getD xs (13 * i) 0
 
+-- numbers that are the marks of the w newest days, and a day with such marks and no units
+abbrev pub SameMarks : ℕ → List ℕ → List ℕ → Type 0
+SameMarks w xs ms = (k : ℕ) → k < w → getD ms k 0 ≡ marks-kept xs k
+
+abbrev pub marked-day : ℕ → Day
+marked-day m = record {
+  home = eqb (m % 2) 1;
+  zone = eqb (m / 2 % 2) 1;
+  elsewhere = eqb (m / 4 % 2) 1;
+  athome = zero-units;
+  inzone = zero-units;
+  outside = zero-units;
+}
+
 -- the bits of units of each kind, joined, and those of a day's units
 abbrev pub units-bits : Units → ℕ
 units-bits u = bitOr (bitOr (bitOr (u .kb) (u .outgoing)) (u .incoming)) (u .sms)
@@ -53,6 +70,21 @@ day-bits d = bitOr (bitOr (units-bits (d .athome)) (units-bits (d .inzone))) (un
 -- units within the limit of lifetime units
 abbrev pub Low : Units → Type 0
 Low u = AtMost u lifetime-most
+
+-- what a day adds to a sum of units
+abbrev pub column : Column → Day → ℕ
+column (ZoneUnits s) = zone-units s
+column (OtherUnits s) = other-units s
+
+-- 123 numbers, the first w of them what the w newest days add
+pub record InColumn (c : Column) (w : ℕ) (ds : List Day) (xs : List ℕ) : Type 0 where
+  pub places : length xs ≡ 123
+  pub filled : (i : ℕ) → i < w → getD xs i 0 ≡ column c (getD ds i empty-day)
+
+-- the sum of the first w numbers: that of one less, and the one before
+unfoldable pub sum-first : ℕ → List ℕ → ℕ
+sum-first zero xs = 0
+sum-first (suc w) xs = getD xs w 0 + sum-first w xs
 
 -- a service is prevalent over the w newest days
 abbrev pub prevails : Service → ℕ → List Day → Bool

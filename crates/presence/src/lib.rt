@@ -52,6 +52,12 @@ pub struct Services {
     pub messages: ServiceState,
 }
 
+// What a sum of units adds up: a service's zone units, or its other units.
+enum Column {
+    ZoneUnits(Service),
+    OtherUnits(Service),
+}
+
 // Which services are prevalent over a window of days.
 struct Prevalent {
     internet: bool,

@@ -8,7 +8,7 @@ ghost use Prim.Native.Nat.{_+_, _-_, _≤_, _<_};
 ghost use lib.ListN.{drop, replicate, take, getD, length};
 ghost use Rattle.tariff.specs.Units.{_⊕_, each, AtMost};
 ghost use Rattle.presence.specs.Day.{empty-day, day-units};
-ghost use Rattle.presence.specs.Log.{marks-number, numbers-of, days-of, logged-with, units-over};
+ghost use Rattle.presence.specs.Log.{marks-number, numbers-of, day-from, days-of, logged-with, units-over};
 ghost use Rattle.presence.specs.Log.{lifetime-most, log-within};
 ghost use Rattle.presence.specs.Held.{Roomy, Bounded, UnitsFit, bits-of, place-from, marks-kept, day-bits};
 
@@ -20,16 +20,16 @@ pub fn log_empty() -> [u64; 1599]
     [0u64; 1599]
 }
 
-// Four numbers of the log, from place j on: the units of a day at one place.
-fn units_at(log: &[u64; 1599], j: usize) -> Units
-    requires { ⌜ j + 4 ≤ 1599 ⌝ }
-    ensures { λ r. ⌜ r ≡ each (getD (now (log .entry)) j 0) (getD (now (log .entry)) (j + 1) 0)
-        (getD (now (log .entry)) (j + 2) 0) (getD (now (log .entry)) (j + 3) 0) ⌝ }
+// Four numbers of a list, from place j on: units of each kind.
+pub fn units_at(xs: &[u64], j: usize) -> Units
+    requires { ⌜ j + 4 ≤ length (now xs) ⌝ }
+    ensures { λ r. ⌜ r ≡ each (getD (now (xs .entry)) j 0) (getD (now (xs .entry)) (j + 1) 0)
+        (getD (now (xs .entry)) (j + 2) 0) (getD (now (xs .entry)) (j + 3) 0) ⌝ }
 {
-    let kb = log[j];
-    let outgoing = log[j + 1];
-    let incoming = log[j + 2];
-    let sms = log[j + 3];
+    let kb = xs[j];
+    let outgoing = xs[j + 1];
+    let incoming = xs[j + 2];
+    let sms = xs[j + 3];
     Units {
         kb: kb,
         outgoing: outgoing,
@@ -38,16 +38,15 @@ fn units_at(log: &[u64; 1599], j: usize) -> Units
     }
 }
 
-// Day i of the log; 0 is the newest.
-pub fn day_at(log: &[u64; 1599], i: usize) -> Day
-    requires { ⌜ i < 123 ⌝ }
-    ensures { λ r. ⌜ r ≡ getD (days-of (now (log .entry))) i empty-day ⌝ }
+// The day of 13 numbers of a list, from place j on.
+pub fn day_in(xs: &[u64], j: usize) -> Day
+    requires { ⌜ j + 13 ≤ length (now xs) ⌝ }
+    ensures { λ r. ⌜ r ≡ day-from (drop j (now (xs .entry))) ⌝ }
 {
-    let j = 13 * i;
-    let marks = log[j];
-    let athome = units_at(log, j + 1);
-    let inzone = units_at(log, j + 5);
-    let outside = units_at(log, j + 9);
+    let marks = xs[j];
+    let athome = units_at(xs, j + 1);
+    let inzone = units_at(xs, j + 5);
+    let outside = units_at(xs, j + 9);
     Day {
         home: marks % 2 == 1,
         zone: (marks / 2) % 2 == 1,
@@ -58,8 +57,16 @@ pub fn day_at(log: &[u64; 1599], i: usize) -> Day
     }
 }
 
+// Day i of the log; 0 is the newest.
+pub fn day_at(log: &[u64], i: usize) -> Day
+    requires { ⌜ (i < 123) × (length (now log) ≡ 1599) ⌝ }
+    ensures { λ r. ⌜ r ≡ getD (days-of (now (log .entry))) i empty-day ⌝ }
+{
+    day_in(log, 13 * i)
+}
+
 // Every day one place on; the oldest drops.
-fn shift_days(log: &mut [u64; 1599])
+fn shift_days(log: &mut [u64])
     requires { ⌜ length (now log) ≡ 1599 ⌝ }
     ensures { λ _. ⌜ (length (now (log .exit)) ≡ 1599) × (drop 13 (now (log .exit)) ≡ take 1586 (now (log .entry))) ⌝ }
 {
@@ -76,7 +83,8 @@ fn one_if(b: bool) -> u64
     if b { 1 } else { 0 }
 }
 
-fn marks_of(d: Day) -> u64
+// A day's marks as one number.
+pub fn marks_of(d: Day) -> u64
     ensures { λ r. ⌜ r ≡ marks-number d ⌝ }
 {
     let home = one_if(d.home);
@@ -86,7 +94,7 @@ fn marks_of(d: Day) -> u64
 }
 
 // The newest day's numbers.
-fn write_newest(log: &mut [u64; 1599], d: Day)
+fn write_newest(log: &mut [u64], d: Day)
     requires { ⌜ length (now log) ≡ 1599 ⌝ }
     ensures { λ _. ⌜ now (log .exit) ≡ numbers-of d ++ drop 13 (now (log .entry)) ⌝ }
 {
@@ -109,7 +117,7 @@ fn write_newest(log: &mut [u64; 1599], d: Day)
 }
 
 // The log with one day more.
-pub fn push(log: &mut [u64; 1599], d: Day)
+pub fn push(log: &mut [u64], d: Day)
     requires { ⌜ length (now log) ≡ 1599 ⌝ }
     ensures { λ _. ⌜ now (log .exit) ≡ logged-with d (now (log .entry)) ⌝ }
 {
@@ -128,8 +136,8 @@ fn add_day(sum: Units, d: Day) -> Units
 }
 
 // The units of the first n days.
-fn tally(log: &[u64; 1599], n: usize) -> Units
-    requires { ⌜ (n ≤ 123) × UnitsFit n (now log) ⌝ }
+fn tally(log: &[u64], n: usize) -> Units
+    requires { ⌜ (n ≤ 123) × UnitsFit n (now log) × (length (now log) ≡ 1599) ⌝ }
     ensures { λ r. ⌜ r ≡ units-over n (days-of (now (log .entry))) ⌝ }
 {
     let mut sum = Units {
@@ -147,8 +155,8 @@ fn tally(log: &[u64; 1599], n: usize) -> Units
 }
 
 // The bits of the numbers from one place to before another, joined: below a power of 2 exactly if each number is.
-fn bits_between(log: &[u64; 1599], from: usize, to: usize) -> u64
-    requires { ⌜ (from ≤ to) × (to ≤ 1599) ⌝ }
+fn bits_between(log: &[u64], from: usize, to: usize) -> u64
+    requires { ⌜ (from ≤ to) × (to ≤ 1599) × (length (now log) ≡ 1599) ⌝ }
     ensures { λ r. ⌜ r ≡ bits-of (place-from from (now (log .entry))) (to - from) ⌝ }
 {
     let mut bits: u64 = 0;
@@ -161,8 +169,8 @@ fn bits_between(log: &[u64; 1599], from: usize, to: usize) -> u64
 }
 
 // The same of the marks of the first n days.
-fn marks_bits(log: &[u64; 1599], n: usize) -> u64
-    requires { ⌜ n ≤ 123 ⌝ }
+fn marks_bits(log: &[u64], n: usize) -> u64
+    requires { ⌜ (n ≤ 123) × (length (now log) ≡ 1599) ⌝ }
     ensures { λ r. ⌜ r ≡ bits-of (marks-kept (now (log .entry))) n ⌝ }
 {
     let mut bits: u64 = 0;
@@ -189,8 +197,8 @@ fn day_bits(d: Day) -> u64
 
 // Are the units of today and of the n logged days within the lifetime units, the other places blank, and all marks
 // proper? A number of 2^40 or more is above any lifetime units; without one the units add up.
-pub fn log_fits(log: &[u64; 1599], today: Day, n: u64, lifetime: Units) -> bool
-    requires { ⌜ (n ≤ 123) × AtMost lifetime lifetime-most ⌝ }
+pub fn log_fits(log: &[u64], today: Day, n: u64, lifetime: Units) -> bool
+    requires { ⌜ (n ≤ 123) × AtMost lifetime lifetime-most × (length (now log) ≡ 1599) ⌝ }
     ensures { λ r. ⌜ r ≡ log-within (now (log .entry)) today n lifetime ⌝ }
 {
     let k = n as usize;

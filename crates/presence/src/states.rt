@@ -4,6 +4,7 @@ use super::Services;
 use super::window;
 ghost use mathlib.Core.Path.{_≡_};
 ghost use Prim.Native.Nat.{_+_, _≤_, _<_};
+ghost use lib.ListN.{length};
 ghost use Rattle.tariff.specs.Units.{AtMost};
 ghost use Rattle.presence.specs.Service.{state-step, services-after};
 ghost use Rattle.presence.specs.Log.{days-of, units-over, lifetime-most};
@@ -63,8 +64,8 @@ fn asks_short(state: ServiceState) -> bool
 
 // The three states after a day change, with n days logged, the one just ended among them. A window of days that no
 // state asks for is not looked at.
-pub fn services_next(s: Services, log: &[u64; 1599], n: usize) -> Services
-    requires { ⌜ (n ≤ 123) × AtMost (units-over n (days-of (now log))) lifetime-most ⌝ }
+pub fn services_next(s: Services, log: &[u64], n: usize) -> Services
+    requires { ⌜ (n ≤ 123) × AtMost (units-over n (days-of (now log))) lifetime-most × (length (now log) ≡ 1599) ⌝ }
     ensures { λ r. ⌜ r ≡ services-after n (days-of (now (log .entry))) s ⌝ }
 {
     let full = 123 <= n;

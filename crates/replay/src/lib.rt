@@ -115,7 +115,7 @@ fn one_if_refused(x: Answer) -> usize
 }
 
 // One call, with the log lent: looked at for soundness first, unless it is known.
-fn make_call(state: State, log: &mut [u64; 1599], known: bool, c: Call) -> StateApplied
+fn make_call(state: State, log: &mut [u64], known: bool, c: Call) -> StateApplied
     requires { ⌜ (length (now log) ≡ 1599) × SaidSound known (account-of state (now log)) ⌝ }
     ensures answer { λ r. ⌜ r ≡ applied-state (applied (account-of state (now (log .entry))) c) ⌝ }
     ensures shifted { λ _. ⌜ now (log .exit) ≡ step (account-of state (now (log .entry))) c .log ⌝ }
@@ -128,7 +128,7 @@ fn make_call(state: State, log: &mut [u64; 1599], known: bool, c: Call) -> State
 }
 
 // One more coded call, with the log lent.
-pub fn replay_with(t: Progress, log: &mut [u64; 1599], x: Coded) -> Progress
+pub fn replay_with(t: Progress, log: &mut [u64], x: Coded) -> Progress
     requires { ⌜ Going t (now log) ⌝ }
     ensures progress { λ r. ⌜ r ≡ progress-of (t .sound) (replay-step (replayed-of t (now (log .entry))) x) ⌝ }
     ensures shifted { λ _. ⌜ now (log .exit) ≡ replay-step (replayed-of t (now (log .entry))) x .account .log ⌝ }
@@ -155,7 +155,7 @@ pub fn replay_with(t: Progress, log: &mut [u64; 1599], x: Coded) -> Progress
 }
 
 // One call as the reader hands it out, with the log lent.
-fn take_call(t: Progress, log: &mut [u64; 1599], s: Step) -> Progress
+fn take_call(t: Progress, log: &mut [u64], s: Step) -> Progress
     requires { ⌜ Going t (now log) ⌝ }
     ensures progress { λ r. ⌜ r ≡ progress-of (t .sound) (after-step (replayed-of t (now (log .entry))) s) ⌝ }
     ensures shifted { λ _. ⌜ now (log .exit) ≡ after-step (replayed-of t (now (log .entry))) s .account .log ⌝ }
@@ -170,12 +170,7 @@ fn take_call(t: Progress, log: &mut [u64; 1599], s: Step) -> Progress
 }
 
 // The first n calls of a calls section, with the log lent: one reader over the section, moved on at each call.
-fn run_calls<'a, 'l>(
-    section: &'a [u8],
-    n: usize,
-    from: Progress,
-    log: &'l mut [u64; 1599],
-) -> Progress
+fn run_calls<'a, 'l>(section: &'a [u8], n: usize, from: Progress, log: &'l mut [u64]) -> Progress
     requires { ⌜ (8 * n ≤ length (now section)) × Starting from (now log) ⌝ }
     ensures { λ r. ⌜ replayed-of r (now (log .exit))
         ≡ run-first (account-of (from .state) (now (log .entry))) (now (section .entry)) n ⌝ }
@@ -191,8 +186,9 @@ fn run_calls<'a, 'l>(
     t
 }
 
-// All calls of a calls section, with the log lent, on an account that is known to be sound, or looked at by each call.
-fn run_section(section: &[u8], state: State, log: &mut [u64; 1599], known: bool) -> Progress
+// All calls of a calls section, with the log lent. Where `known` is true no call looks whether the account is sound, so
+// this asks that it is; every call leaves it so. Where it is false each call looks, and the account may be any.
+pub fn run_section(section: &[u8], state: State, log: &mut [u64], known: bool) -> Progress
     requires { ⌜ (length (now log) ≡ 1599) × SaidSound known (account-of state (now log)) ⌝ }
     ensures { λ r. ⌜ replayed-of r (now (log .exit))
         ≡ run-section (account-of state (now (log .entry))) (now (section .entry)) ⌝ }
@@ -208,7 +204,7 @@ fn run_section(section: &[u8], state: State, log: &mut [u64; 1599], known: bool)
 
 // All calls of a calls section, with the log lent: one for each whole eight bytes. The account is looked at once: if it
 // is sound it stays so. If not, each call looks, and is refused.
-pub fn section_with(section: &[u8], state: State, log: &mut [u64; 1599]) -> Progress
+pub fn section_with(section: &[u8], state: State, log: &mut [u64]) -> Progress
     requires { ⌜ length (now log) ≡ 1599 ⌝ }
     ensures { λ r. ⌜ replayed-of r (now (log .exit))
         ≡ run-section (account-of state (now (log .entry))) (now (section .entry)) ⌝ }
@@ -224,24 +220,6 @@ pub fn replay(section: &[u8], a: Account) -> Replayed
     let state = a.state;
     let mut log = a.log;
     let t = section_with(section, state, &mut log);
-    let last = t.state;
-    let account = Account {
-        state: last,
-        log: log,
-    };
-    Replayed {
-        account: account,
-        refused: t.refused,
-    }
-}
-
-// The same, where each call looks at the account for itself, as a call that comes alone does.
-pub fn replay_alone(section: &[u8], a: Account) -> Replayed
-    ensures { λ r. ⌜ r ≡ run-section a (now (section .entry)) ⌝ }
-{
-    let state = a.state;
-    let mut log = a.log;
-    let t = run_section(section, state, &mut log, false);
     let last = t.state;
     let account = Account {
         state: last,

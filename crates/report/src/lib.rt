@@ -1,6 +1,4 @@
 // The figures that the program `statement` prints, from the bytes of a trip file. Document 01, "Figures".
-use account::Account;
-use replay::Replayed;
 use state::State;
 use tariff::Allowance;
 use tariff::Plan;
@@ -54,17 +52,8 @@ pub fn reader_hands_out_calls()
     ensures { λ _. ⌜ ReaderHandsOutCalls ⌝ }
 {}
 
-// All calls of a trip file that was read, on an account that is opened under its plan.
-pub fn run_trip(file: &[u8], plan: Plan, calls: usize) -> Replayed
-    requires { ⌜ read-of (now file) ≡ Read.Trip plan calls ⌝ }
-    ensures { λ r. ⌜ r ≡ trip-run (now (file .entry)) plan ⌝ }
-{
-    let opened = Account::open(plan);
-    let a = opened.account;
-    replay::replay(sections::part(file, 2), a)
-}
-
-// The figures after them. The log is in one place, and no whole account is held.
+// The figures after all calls of a trip file that was read, on an account that is opened under its plan. The log is in
+// one place, and no whole account is held.
 fn trip_figures(file: &[u8], plan: Plan, calls: usize) -> Figures
     requires { ⌜ read-of (now file) ≡ Read.Trip plan calls ⌝ }
     ensures { λ r. ⌜ r ≡ figures-of (trip-run (now (file .entry)) plan) ⌝ }

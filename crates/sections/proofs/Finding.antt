@@ -5,14 +5,14 @@ use mathlib.Core.List.{List, [], _∷_}
 use Prim.Native.Nat.{ℕ, zero, suc, _+_, _*_, _≤_, _<_}
 use native.Mathlib.Numerals.{add-one}
 use native.Mathlib.Omega.{arith}
-use lib.ListN.{length, drop, length-take, length-drop}
+use lib.ListN.{length, take, drop, length-take, length-drop}
 use lib.Dec.{ltb, eqb}
 use borrow.Author.Tests.{eqb-true, ltb-true, ltb-false}
 use Rattle.tariff.specs.Tests.{because, verdict-of, is-accepted}
 use Rattle.tariff.specs.declared.Verdict.{Verdict}
 use Rattle.tariff.specs.declared.Verdict.the-variants.{Accepted, Refused}
 use Rattle.sections.specs.Table.{section-count, kind-at, start-at, length-at, body-start, file-reasons, file-verdict}
-use Rattle.sections.specs.Find.{one-if, times-to, entry-to, just-once, part-of, find-reasons, find-verdict, or-nothing, section-of}
+use Rattle.sections.specs.Find.{one-if, times-to, entry-to, just-once, part-of, find-reasons, find-verdict, or-nothing, section-of, part-start, part-length}
 use Rattle.sections.proofs.Verdicts.{then, verdict-append, then-both}
 use Rattle.sections.proofs.Table.{Keeps, entry-start, body-more, body-grows}
 
@@ -85,6 +85,14 @@ lies f k g h =
       listed = l;
       within = omega (arith, entry-start f i (section-count f) (g .follow) l, body-more f i, body-grows f (i + 1) (section-count f) (omega arith), g .ends);
     }
+
+pub part-within : (f : List ℕ) (k : ℕ) → Keeps f → just-once f k ≡ true → part-start f k + part-length f k ≤ length f
+unfolding part-start part-length
+part-within f k g h = lies f k g h .within
+
+pub part-bytes : (f : List ℕ) (k : ℕ) → take (part-length f k) (drop (part-start f k) f) ≡ part-of f k
+unfolding part-start part-length part-of
+part-bytes f k = refl
 
 -- ---- the parts of two kinds lie apart
 

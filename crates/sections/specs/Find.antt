@@ -7,6 +7,7 @@ use lib.Dec.{eqb}
 use Rattle.tariff.specs.Tests.{Reason, because, verdict-of}
 use Rattle.tariff.specs.declared.Verdict.{Verdict}
 use Rattle.tariff.specs.declared.Verdict.the-variants.{Accepted, Refused}
+use Rattle.sections.specs.declared.Extent.{Extent}
 use Rattle.sections.specs.Table.{section-count, kind-at, start-at, length-at, file-reasons}
 
 -- 1 where a test passes: for counting the entries of a kind
@@ -56,6 +57,14 @@ section-of f k = or-nothing (find-verdict f k) (part-of f k)
 -- where in the file the bytes that the entry of kind k names begin
 unfoldable pub part-start : List ℕ → ℕ → ℕ
 part-start f k = start-at f (entry-to f k (section-count f))
+
+-- how many bytes that entry names
+unfoldable pub part-length : List ℕ → ℕ → ℕ
+part-length f k = length-at f (entry-to f k (section-count f))
+
+-- both, as the file's entry has them
+abbrev pub part-extent : List ℕ → ℕ → Extent
+part-extent f k = record { start = part-start f k; length = part-length f k }
 
 -- where the part handed back begins, on a verdict: an empty one stands at the file's first byte
 abbrev pub or-first : Verdict → ℕ → ℕ

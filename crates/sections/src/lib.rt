@@ -8,8 +8,14 @@ ghost use Rattle.tariff.specs.Tests.{is-accepted};
 ghost use Rattle.sections.specs.Table.{length-right, sum-right, table-right, follow-to, body-start};
 ghost use Rattle.sections.specs.Table.{section-count, file-verdict};
 ghost use Rattle.sections.specs.Find.{one-if, times-to, entry-to, just-once, part-of, part-start, find-verdict};
-ghost use Rattle.sections.specs.Find.{section-of, section-start};
+ghost use Rattle.sections.specs.Find.{section-of, section-start, part-extent};
 use tariff::Verdict;
+
+// Where a section lies in a file: its first byte, counted from the file's, and how many bytes it has.
+pub struct Extent {
+    pub start: usize,
+    pub length: usize,
+}
 
 // 10: is the length 12 to 65,536, a multiple of 4 and the first word?
 fn length_right(file: &[u8]) -> bool
@@ -132,19 +138,29 @@ pub fn is_once(file: &[u8], kind: u32) -> bool
     times_among(file, kind, count) == 1
 }
 
-// The part of such a file that its one entry of the kind names: the bytes, and where they lie. A reference's `ptr` is
-// the piece of memory that it refers to and the place in it, so the part is the caller's own file.
+// Where in such a file the part lies that its one entry of the kind names.
+pub fn part_extent(file: &[u8], kind: u32) -> Extent
+    requires { ⌜ (is-accepted (file-verdict (now file)) ≡ true) × (just-once (now file) kind ≡ true) ⌝ }
+    ensures { λ r. ⌜ r ≡ part-extent (now (file .entry)) kind ⌝ }
+{
+    let count = words::word_at(file, 2) as usize;
+    let i = entry_among(file, kind, count);
+    let start = words::word_at(file, 4 + 3 * i) as usize;
+    let length = words::word_at(file, 5 + 3 * i) as usize;
+    Extent { start, length }
+}
+
+// That part: the bytes, and where they lie. A reference's `ptr` is the piece of memory that it refers to and the place
+// in it, so the part is the caller's own file.
 pub fn part(file: &[u8], kind: u32) -> &[u8]
     requires { ⌜ (is-accepted (file-verdict (now file)) ≡ true) × (just-once (now file) kind ≡ true) ⌝ }
     ensures bytes { λ r. ⌜ now r ≡ part-of (now (file .entry)) kind ⌝ }
     ensures place { λ r. ⌜ (r .ptr .0 ≡ file .entry .ptr .0)
         × (r .ptr .1 ≡ file .entry .ptr .1 + part-start (now (file .entry)) kind) ⌝ }
 {
-    let count = words::word_at(file, 2) as usize;
-    let i = entry_among(file, kind, count);
-    let start = words::word_at(file, 4 + 3 * i) as usize;
-    let len = words::word_at(file, 5 + 3 * i) as usize;
-    let end = start + len;
+    let e = part_extent(file, kind);
+    let start = e.start;
+    let end = start + e.length;
     &file[start..end]
 }
 

@@ -13,6 +13,7 @@ use tariff::Plan;
 use tariff::Units;
 ghost use mathlib.Core.Path.{_≡_};
 ghost use Prim.Native.Nat.{_+_, _-_, _≤_, _<_, min};
+ghost use lib.ListN.{length};
 ghost use Rattle.tariff.specs.Caps.{built-in, caps-on};
 ghost use Rattle.tariff.specs.Plan.{credit-allowance};
 ghost use Rattle.presence.specs.Log.{days-of};
@@ -103,8 +104,8 @@ fn least(m: usize, n: usize) -> usize
 }
 
 // All but the log on the next day, where the log has today in it.
-pub fn next_from(a: State, log: &[u64; 1599]) -> State
-    requires { ⌜ Turns a (days-of (now log)) ⌝ }
+pub fn next_from(a: State, log: &[u64]) -> State
+    requires { ⌜ Turns a (days-of (now log)) × (length (now log) ≡ 1599) ⌝ }
     ensures { λ r. ⌜ r ≡ next-state-of a (days-of (now (log .entry))) ⌝ }
 {
     let plan = a.plan;

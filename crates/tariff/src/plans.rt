@@ -10,7 +10,7 @@ ghost use mathlib.Core.Bool.{true, false};
 ghost use Prim.Native.Nat.{_-_, _*_, _/_, _<_};
 ghost use Rattle.tariff.specs.Caps.{number};
 ghost use Rattle.tariff.specs.Plan.{is-prepaid, prices-in-range, unused-empty, terms-in-range, plan-verdict};
-ghost use Rattle.tariff.specs.Plan.{form-of, plan-of, open-bundle, credit-allowance, plan-allowance, CreditFits};
+ghost use Rattle.tariff.specs.Plan.{form-of, plan-with, plan-of, open-bundle, credit-allowance, plan-allowance, CreditFits};
 ghost use Rattle.tariff.specs.Plan.{BundleFits};
 
 // Is the plan prepaid?
@@ -86,12 +86,12 @@ fn form_at(word: u64) -> Form
     Form::Unlimited
 }
 
-// The plan of these terms, or the number that declines it: 1, also for an unknown form, then 17, 18 and 2.
-pub fn plan_from(t: Terms) -> PlanAnswer
-    ensures { λ r. ⌜ r ≡ plan-of t ⌝ }
+// The plan of these terms, with an unknown form taken for unlimited.
+pub fn plan_with(t: Terms) -> Plan
+    ensures { λ r. ⌜ r ≡ plan-with t ⌝ }
 {
     let form = form_at(t.form);
-    let p = Plan {
+    Plan {
         form: form,
         start: t.start,
         pergb: t.pergb,
@@ -99,10 +99,17 @@ pub fn plan_from(t: Terms) -> PlanAnswer
         persms: t.persms,
         fee: t.fee,
         volume: t.volume,
-    };
+    }
+}
+
+// The plan of these terms, or the number that declines it: 1, also for an unknown form, then 17, 18 and 2.
+pub fn plan_from(t: Terms) -> PlanAnswer
+    ensures { λ r. ⌜ r ≡ plan-of t ⌝ }
+{
     if t.form > 2 {
         return PlanAnswer::Refused(1);
     }
+    let p = plan_with(t);
     let verdict = check_plan(p);
     match verdict {
         Verdict::Accepted => PlanAnswer::Granted(p),

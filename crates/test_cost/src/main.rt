@@ -14,7 +14,9 @@ use tariff::Form;
 use tariff::Kind;
 use tariff::Place;
 use tariff::Plan;
+ghost use mathlib.Core.Path.{_≡_};
 ghost use Prim.Native.Nat.{_<_, _≤_};
+ghost use lib.ListN.{length};
 
 // How many calls were accepted, and a figure that shows what they did.
 struct Tally {
@@ -42,7 +44,9 @@ fn most(x: Answer) -> u64 {
     }
 }
 
-fn paid(start: State, log: &[u64; 1599]) -> State {
+fn paid(start: State, log: &[u64]) -> State
+    requires { ⌜ length (now log) ≡ 1599 ⌝ }
+{
     let mut state = start;
     let mut i: u64 = 0;
     while i < 100 {

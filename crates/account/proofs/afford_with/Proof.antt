@@ -10,11 +10,12 @@ use Rattle.account.proofs.afford_with.Statement.{statement}
 use Rattle.account.proofs.afford_with.Tie as tie
 
 returns : tie.Need-returns
-returns c = let a = c .before .before .args in
+returns c = let a = c .before .before .before .args in
     ap (λ (x : Applied). x .answer) (unsound (account-of (a .state) (a .log .now)) (Afford (a .k)) (sym (c .before .parts-fit .ensures) ∙ not-true (c .before .parts-fit .result) (c .if1 .taken)))
 
 sound-requires : tie.Need-afford-sound-requires
-sound-requires c κs = sym (c .before .parts-fit .ensures) ∙ not-false (c .before .parts-fit .result) (c .if1 .left)
+sound-requires c κs =
+    (search needs, sym (c .before .parts-fit .ensures) ∙ not-false (c .before .parts-fit .result) (c .if1 .left))
 
 pub afford-with-spec : {M : Type 1} → statement M
 afford-with-spec = tie.close (tie.spec (λ c κs. search needs) returns sound-requires (λ c. search needs))

@@ -8,23 +8,23 @@ use Rattle.account.proofs.call_sound.Statement.{statement}
 use Rattle.account.proofs.call_sound.Tie as tie
 
 returns : tie.Need-returns
-returns c = let a = account-of (c .before .before .before .before .before .args .state) (c .before .before .before .before .before .args .log .now) in
+returns c = let a = account-of (c .before .before .before .before .before .before .args .state) (c .before .before .before .before .before .before .args .log .now) in
     (simp (c .before .before .before .c .given .1) (c .register-sound .ensures), simp (c .before .before .before .c .given .1) (sym (register-keeps a _)))
 
 returns-2 : tie.Need-returns-2
-returns-2 c = let a = account-of (c .before .before .before .before .before .args .state) (c .before .before .before .before .before .args .log .now) in
+returns-2 c = let a = account-of (c .before .before .before .before .before .before .args .state) (c .before .before .before .before .before .before .args .log .now) in
     (simp (c .before .before .before .c2 .given .1) (c .use-sound .ensures), simp (c .before .before .before .c2 .given .1) (sym (use-keeps a _ _)))
 
 returns-3 : tie.Need-returns-3
-returns-3 c = let a = account-of (c .before .before .before .before .before .args .state) (c .before .before .before .before .before .args .log .now) in
+returns-3 c = let a = account-of (c .before .before .before .before .before .before .args .state) (c .before .before .before .before .before .before .args .log .now) in
     (simp (c .before .before .before .c3 .given .1) (c .top-up-sound .ensures), simp (c .before .before .before .c3 .given .1) (sym (top-up-keeps a _)))
 
 returns-4 : tie.Need-returns-4
-returns-4 c =
-    (simp (c .before .before .enum-told .given .1) (c .next-day-sound .ensures .0), simp (c .before .before .enum-told .given .1) (c .next-day-sound .ensures .1))
+returns-4 c = let m = c .before .before in
+    (simp (m .before .before .enum-told .given .1) (m .next-day-sound .ensures .0), simp (m .before .before .enum-told .given .1) (m .next-day-sound .ensures .1))
 
 returns-5 : tie.Need-returns-5
-returns-5 c = let a = account-of (c .before .before .before .before .before .before .args .state) (c .before .before .before .before .before .before .args .log .now) in
+returns-5 c = let a = account-of (c .before .before .before .before .before .before .before .args .state) (c .before .before .before .before .before .before .before .args .log .now) in
     (simp (c .afford-applied .ensures, c .before .afford-sound .ensures, c .before .before .before .before .c4 .given .1) (afford-answered a _), simp (c .before .before .before .before .c4 .given .1) (sym (log-afforded a _)))
 
 pub call-sound-spec : {M : Type 1} → statement M
@@ -42,8 +42,13 @@ call-sound-spec =
     (λ c. search needs)
     (λ c κs. search needs)
     (λ c κs. search needs)
+    (λ c. search needs)
     returns
+    (λ c. search needs)
     returns-2
+    (λ c. search needs)
     returns-3
+    (λ c. search needs)
     returns-4
+    (λ c. search needs)
     returns-5)

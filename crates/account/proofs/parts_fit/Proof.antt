@@ -12,10 +12,10 @@ use borrow.Author.Needs.{needs}
 use Rattle.account.proofs.parts_fit.Statement.{statement}
 use Rattle.account.proofs.parts_fit.Tie as tie
 
-counters : (c : tie.Else1) → counters-sound (c .before .before .args .state) ≡ true
+counters : (c : tie.Else1) → counters-sound (c .before .before .before .args .state) ≡ true
 counters c = sym (c .before .counters-fit .ensures) ∙ not-false (c .before .counters-fit .result) (c .if1 .left)
 
-charges : (c : tie.Else2) → charges-sound (c .before .before .before .before .args .state) ≡ true
+charges : (c : tie.Else2) → charges-sound (c .before .before .before .before .before .args .state) ≡ true
 charges c = sym (c .before .charges-fit .ensures) ∙ not-false (c .before .charges-fit .result) (c .if2 .left)
 
 returns : tie.Need-returns
@@ -30,7 +30,8 @@ unfolding sound all
 returns-2 c = simp (sym (c .before .charges-fit .ensures) ∙ not-true (c .before .charges-fit .result) (c .if2 .taken), and-false)
 
 log-fits-requires : tie.Need-log-fits-requires
-log-fits-requires c κs = let g = counters-tell (c .before .before .before .before .args .state) (counters (c .before .before)) in (omega (arith, g .logged-ok), g .lifetime-ok)
+log-fits-requires c κs = let d = c .before .before .before .before .before in
+    let g = counters-tell (d .args .state) (counters (c .before .before)) in (omega (arith, g .logged-ok), g .lifetime-ok, d .pre)
 
 returns-3 : tie.Need-returns-3
 unfolding sound all

@@ -8,12 +8,13 @@ use Rattle.account.proofs.register_sound.Statement.{statement}
 use Rattle.account.proofs.register_sound.Tie as tie
 
 registered-at-requires : tie.Need-registered-at-requires
-registered-at-requires c κs = let s = account-of (c .args .state) (c .args .log .now) in
-    omega (arith, credit-most s (c .pre), paid-most s (c .pre))
+registered-at-requires c κs = let d = c .before in
+    let s = account-of (d .args .state) (d .args .log .now) in
+    omega (arith, credit-most s (d .pre .1), paid-most s (d .pre .1))
 
 returns : tie.Need-returns
-returns c = let d = c .before in
-    simp (c .registered-at .ensures) (ap applied-state (registered-yes (account-of (d .args .state) (d .args .log .now)) (d .pre) (d .args .p)))
+returns c = let d = c .before .before in
+    simp (c .registered-at .ensures) (ap applied-state (registered-yes (account-of (d .args .state) (d .args .log .now)) (d .pre .1) (d .args .p)))
 
 pub register-sound-spec : {M : Type 1} → statement M
 register-sound-spec = tie.close (tie.spec registered-at-requires returns)

@@ -7,11 +7,13 @@ use Rattle.account.proofs.use_sound.Statement.{statement}
 use Rattle.account.proofs.use_sound.Tie as tie
 
 use-of-requires : tie.Need-use-of-requires
-use-of-requires c κs = steady (account-of (c .args .state) (c .args .log .now)) (c .pre)
+use-of-requires c κs = let d = c .before in
+    steady (account-of (d .args .state) (d .args .log .now)) (d .pre .1)
 
 returns : tie.Need-returns
-returns c = let a = c .before .args in
-    c .use-of .ensures ∙ ap applied-state (use-sound (account-of (a .state) (a .log .now)) (a .k) (a .n) (c .before .pre))
+returns c = let d = c .before .before in
+    let a = d .args in
+    c .use-of .ensures ∙ ap applied-state (use-sound (account-of (a .state) (a .log .now)) (a .k) (a .n) (d .pre .1))
 
 pub use-sound-spec : {M : Type 1} → statement M
 use-sound-spec = tie.close (tie.spec use-of-requires returns)

@@ -8,4 +8,4 @@ run-section-requires : tie.Need-run-section-requires
 run-section-requires c κs = (search needs, λ e. sym (c .before .parts-fit .ensures) ∙ e)
 
 pub section-with-spec : {M : Type 1} → statement M
-section-with-spec = tie.close (tie.spec (λ c κs. search needs) run-section-requires (λ c. search needs))
+section-with-spec = tie.close (tie.spec (λ c κs. search needs) run-section-requires (λ c. search needs) (λ c. search needs))

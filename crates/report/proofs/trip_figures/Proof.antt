@@ -9,11 +9,12 @@ part-requires : tie.Need-part-requires
 part-requires c κs = section-once _ _ _ (c .before .before .before .before .pre)
 
 returns : tie.Need-returns
-returns c = let d = c .before .before .before .before .before .before .before .before .before in
-    let o = c .before .before .before .before .before .before .before .open-with in
-    let l = c .before .before .before .before .before .log-empty in
-    let t = c .before .before .section-with in
-    c .show-figures .ensures ∙ trip-shown _ _ (d .args .calls) (o .result) (l .result) (c .before .before .before .before .part .result .now) (t .last .1 .1 .0) (t .result) (d .pre) (o .ensures) (l .ensures) (c .before .before .before .before .part .ensures .0) (t .ensures)
+returns c = let t = c .before .before .before .section-with in
+    let p = c .before .before .before .before .before in
+    let l = p .before .log-empty in
+    let o = p .before .before .before .open-with in
+    let d = p .before .before .before .before .before in
+    c .show-figures .ensures ∙ trip-shown _ _ (d .args .calls) (o .result) (l .result) (p .part .result .now) (t .last .1 .1 .0) (t .result) (d .pre) (o .ensures) (l .ensures) (p .part .ensures .0) (t .ensures)
 
 pub trip-figures-spec : {M : Type 1} → statement M
-trip-figures-spec = tie.close (tie.spec (λ c κs. search needs) (λ c κs. search needs) part-requires (λ c κs. search needs) (λ c κs. search needs) returns)
+trip-figures-spec = tie.close (tie.spec (λ c κs. search needs) (λ c κs. search needs) part-requires (λ c. search needs) (λ c κs. search needs) (λ c κs. search needs) returns)

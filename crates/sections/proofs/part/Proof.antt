@@ -1,79 +1,42 @@
 -- `sections::part` meets its contract. Assumes nothing.
 use mathlib.Core.Path.{_≡_, refl, _∙_, ap}
-use Prim.Native.Nat.{_+_, _-_}
+use Prim.Native.Nat.{ℕ, _+_, _-_, _≤_}
 use native.Mathlib.Omega.{arith}
-use Rattle.sections.specs.Table.{section-count, start-at}
-use Rattle.sections.specs.Find.{entry-to, part-of, part-start}
-use Rattle.sections.proofs.Table.{Keeps, keeps}
-use Rattle.sections.proofs.Finding.{Lies, lies}
+use lib.ListN.{length, take, drop}
+use Rattle.sections.specs.declared.Extent.{Extent}
+use Rattle.sections.specs.Find.{part-of, part-start, part-length}
+use Rattle.sections.proofs.Table.{keeps}
+use Rattle.sections.proofs.Finding.{part-within, part-bytes}
 use borrow.Author.Needs.{needs}
 use Rattle.sections.proofs.part.Statement.{statement}
 use Rattle.sections.proofs.part.Tie as tie
 
-keeps-here : (c : tie.After-shared-slice-known) → Keeps (c .before .args .file .now)
-keeps-here c = keeps (c .before .args .file .now) (c .before .pre .0)
+start-is : (c : tie.After-part-extent) → c .part-extent .result .start ≡ part-start (c .before .before .args .file .now) (c .before .before .args .kind)
+start-is c = ap (λ (e : Extent). e .start) (c .part-extent .ensures)
 
--- the entry that was found
-entry-is : (c : tie.After-entry-among) → c .entry-among .result ≡ entry-to (c .before .before .before .args .file .now) (c .before .before .before .args .kind) (section-count (c .before .before .before .args .file .now))
-entry-is c = c .entry-among .ensures ∙ ap (entry-to (c .before .before .before .args .file .now) (c .before .before .before .args .kind)) (c .before .word-at .ensures)
+length-is : (c : tie.After-part-extent) → c .part-extent .result .length ≡ part-length (c .before .before .args .file .now) (c .before .before .args .kind)
+length-is c = ap (λ (e : Extent). e .length) (c .part-extent .ensures)
 
-lies-here : (c : tie.After-entry-among) → Lies (c .before .before .before .args .file .now) (c .entry-among .result)
-lies-here c = rw (entry-is c) (lies (c .before .before .before .args .file .now) (c .before .before .before .args .kind) (keeps-here (c .before .before)) (c .before .before .before .pre .1))
+within : (c : tie.After-part-extent) → c .part-extent .result .start + c .part-extent .result .length ≤ length (c .before .before .args .file .now)
+within c = let d = c .before .before in
+    rw (start-is c, length-is c) (part-within (d .args .file .now) (d .args .kind) (keeps (d .args .file .now) (d .pre .0)) (d .pre .1))
 
-word-at-requires : tie.Need-word-at-requires
-word-at-requires c κs = omega (arith, keeps-here c)
-
-entry-among-requires : tie.Need-entry-among-requires
-entry-among-requires c κs = omega (arith, keeps-here (c .before), c .word-at .ensures)
-
-mul-word-at : tie.Need-mul-word-at
-mul-word-at c = omega (arith, lies-here c, keeps-here (c .before .before))
-
-add-word-at : tie.Need-add-word-at
-add-word-at c = omega (arith, lies-here c, keeps-here (c .before .before))
-
-word-at-requires-2 : tie.Need-word-at-requires-2
-word-at-requires-2 c κs = omega (arith, lies-here c, keeps-here (c .before .before))
-
-mul-word-at-2 : tie.Need-mul-word-at-2
-mul-word-at-2 c = omega (arith, lies-here (c .before), keeps-here (c .before .before .before))
-
-add-word-at-2 : tie.Need-add-word-at-2
-add-word-at-2 c = omega (arith, lies-here (c .before), keeps-here (c .before .before .before))
-
-word-at-requires-3 : tie.Need-word-at-requires-3
-word-at-requires-3 c κs = omega (arith, lies-here (c .before), keeps-here (c .before .before .before))
+add-end : tie.Need-add-end
+add-end c = omega (arith, within (c .before))
 
 part-result-end : tie.Need-part-result-end
-part-result-end c = omega (arith, lies-here (c .before .before), c .word-at3 .ensures, c .before .word-at2 .ensures)
+part-result-end c = omega (arith, within (c .before))
 
 returns : tie.Need-returns
-unfolding part-of part-start
 returns c =
-    let w = c .before .before .word-at2 .result in
-    let v = c .before .word-at3 .result in
-    let e : w + v - w ≡ v = omega arith in (
-      rw e (simp (c .before .before .word-at2 .ensures, c .before .word-at3 .ensures, entry-is (c .before .before .before))),
-      (refl, omega (arith, c .before .before .word-at2 .ensures ∙ ap (start-at (c .before .before .before .before .before .before .args .file .now)) (entry-is (c .before .before .before)))),
-    )
+    let m = c .before .before in
+    let s = m .part-extent .result .start in
+    let n = m .part-extent .result .length in
+    let e : s + n - s ≡ n = omega arith in
+    let f = m .before .before .args .file .now in
+    (rw e (ap (λ (k : ℕ). take n (drop k f)) (start-is m) ∙ (ap (λ (k : ℕ). take k (drop (part-start f (m .before .before .args .kind)) f)) (length-is m) ∙ part-bytes f (m .before .before .args .kind))), (refl, omega (arith, start-is m)))
 
 pub part-spec : {M : Type 1} → statement M
 part-spec =
     tie.close
-    (tie.spec
-    word-at-requires
-    (λ c. search needs)
-    entry-among-requires
-    mul-word-at
-    add-word-at
-    word-at-requires-2
-    (λ c. search needs)
-    mul-word-at-2
-    add-word-at-2
-    word-at-requires-3
-    (λ c. search needs)
-    (λ c. search needs)
-    (λ c. search needs)
-    (λ c. search needs)
-    part-result-end
-    returns)
+    (tie.spec (λ c κs. search needs) add-end (λ c. search needs) (λ c. search needs) part-result-end returns)

@@ -23,8 +23,8 @@ next-day-with-requires : tie.Need-next-day-with-requires Inv-loop μ-loop
 next-day-with-requires c κs = c .before .before .loop .inv .1
 
 loop-again : tie.Need-loop-again Inv-loop μ-loop
-loop-again c = let l = c .before .before .before .before .loop in
-    (omega arith, rw (c .before .next-day-with .ensures .1) (step-size (account-of (l .state) (l .log)) NextDay (l .inv .1)))
+loop-again c = let l = c .before .before .before .before .before .loop in
+    (omega arith, rw (c .before .before .next-day-with .ensures .1) (step-size (account-of (l .state) (l .log)) NextDay (l .inv .1)))
 
 pub filled-spec : {M : Type 1} → statement M
 filled-spec =
@@ -32,9 +32,12 @@ filled-spec =
     (tie.spec
     Inv-loop
     μ-loop
-    (λ c κs. tt)
-    (λ c κs. tt)
+    (λ c. search needs)
+    (λ c κs. search needs)
+    (λ c. search needs)
+    (λ c κs. search needs)
     loop-holds
+    (λ c. search needs)
     next-day-with-requires
     (λ c. omega arith)
     (λ c. omega arith)

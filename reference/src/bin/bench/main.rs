@@ -1,25 +1,25 @@
 //! bench: what the calls of the proved meter cost beside this crate's, in
-//! tables. The cost of a call is the difference between two runs, of which one
-//! makes some hundred more calls of that kind.
+//! tables. Each call is made on an account in memory.
 //! bench --picture FILE: the same, and a picture of the figures in a file.
 //! bench --one KIND COUNT START: COUNT calls of a kind after some days from day
-//! START on, or COUNT times Afford then, the statement of the largest file or
-//! the caps of day START, through the proved meter alone.
+//! START on, the caps of day START, or COUNT times the statement of the largest
+//! file or the run of its calls, through the proved meter alone.
 //! bench --kinds: the kinds of --one, each with its name.
 
 mod measure;
+mod meters;
 mod picture;
 mod tables;
 mod work;
 
-use reference::sides::{proved, Side, REFERENCE};
-use std::hint::black_box;
+use meters::Room;
+use reference::sides::{proved, Side};
 use std::process::ExitCode;
-use work::{file, most_calls, row, Work, ROWS};
+use work::{file, most_calls, row, Task, Work, ROWS};
 
-/// The kinds of --one that are no rows of the tables, with their names.
-const CAPS: [&str; 2] = ["caps", "caps of a day"];
+/// The kinds of --one that are of a whole file, with their names.
 const STATEMENT: [&str; 2] = ["statement", "statement of the largest file"];
+const RUN: [&str; 2] = ["run", "run of the largest file's calls"];
 
 fn main() -> ExitCode {
     let args: Vec<String> = std::env::args().skip(1).collect();
@@ -30,7 +30,7 @@ fn main() -> ExitCode {
     let words: Vec<&str> = args.iter().map(String::as_str).collect();
     let done = match words[..] {
         [] => {
-            tables::tables(&[other, REFERENCE]);
+            tables::tables(other);
             true
         }
         ["--picture", path] => return picture(other, path),
@@ -52,7 +52,7 @@ fn main() -> ExitCode {
 
 fn kinds() -> impl Iterator<Item = [&'static str; 2]> {
     let rows = ROWS.iter().map(|row| [row.key, row.name]);
-    rows.chain([CAPS, STATEMENT])
+    rows.chain([STATEMENT, RUN])
 }
 
 fn usage() -> ExitCode {
@@ -76,7 +76,7 @@ fn picture(other: Side, path: &str) -> ExitCode {
         eprintln!("bench: {path}: {error}");
         return ExitCode::from(2);
     }
-    let drawn = picture::draw(&tables::tables(&[other, REFERENCE]));
+    let drawn = picture::draw(&tables::tables(other));
     if let Err(error) = std::fs::write(path, drawn) {
         eprintln!("bench: {path}: {error}");
         return ExitCode::from(2);
@@ -86,22 +86,23 @@ fn picture(other: Side, path: &str) -> ExitCode {
 }
 
 /// So many of a kind through the proved meter; answers whether there is such a
-/// kind.
-fn one(other: Side, key: &str, count: usize, start: u32) -> bool {
-    if key == CAPS[0] {
-        for _ in 0..count {
-            black_box((other.search)(black_box(u64::from(start))));
-        }
-    } else if key == STATEMENT[0] {
-        let work = Work::Statement(file(start, &most_calls()));
-        for _ in 0..count {
-            black_box(work.run(&other, &mut [0; 10]));
-        }
+/// kind. Of a row they are one work, of a file so many works.
+fn one(side: Side, key: &str, count: usize, start: u32) -> bool {
+    let of_file = |work: fn(Vec<u8>) -> Work| {
+        let work = work(file(start, &most_calls()));
+        (Task::new(side, start, &[], work), count)
+    };
+    let (mut task, times) = if key == STATEMENT[0] {
+        of_file(Work::Statement)
+    } else if key == RUN[0] {
+        of_file(Work::Run)
     } else if let Some(row) = row(key) {
-        let work = row.work(start, row.full_days(), count);
-        black_box(work.run(&other, &mut [0; 10]));
+        (row.task(side, start, row.full_days(), count), 1)
     } else {
         return false;
+    };
+    for _ in 0..times {
+        task.work.run(&mut task.proved, &mut Room::default());
     }
     true
 }

@@ -1,7 +1,7 @@
 //! The parts that are measured, and their times in tables.
 
 use crate::measure::{Line, Part, EARLY};
-use crate::work::{file, most_calls, row, section, Row, Work, ROWS};
+use crate::work::{file, most_calls, row, Row, Task, Work, ROWS};
 use reference::sides::Side;
 use reference::tripfile::MAX_CALLS;
 
@@ -22,9 +22,10 @@ pub struct Table {
 pub struct Tables {
     /// Single calls with 123 logged days.
     pub calls: Table,
-    /// Files, by their calls; then the calls of the last, each checked.
+    /// Files, by their calls; then the calls of the last, run on an account,
+    /// and each checked.
     pub statements: Table,
-    /// The last two lines of these, as a whole.
+    /// The last three lines of these, as a whole.
     pub largest: Table,
     /// A use and a registration, by logged days.
     pub logged: [Table; 2],
@@ -67,24 +68,34 @@ impl Table {
         println!("\n| {what} | proved, {unit} | reference, {unit} | ratio |\n|---|---|---|---|");
         for (name, [proved, reference]) in rows {
             let ratio = proved / reference;
-            println!("| {name} | {proved:.0} | {reference:.0} | {ratio:.2} |");
+            let [proved, reference] = [proved, reference].map(shown);
+            println!("| {name} | {proved} | {reference} | {ratio:.2} |");
         }
     }
 }
 
+/// A time in whole units, or in tenths where it has just some of them.
+fn shown(time: &f64) -> String {
+    if *time < 10.0 {
+        format!("{time:.1}")
+    } else {
+        format!("{time:.0}")
+    }
+}
+
 /// Measures all parts and prints a table of each.
-pub fn tables(sides: &[Side; 2]) -> Tables {
+pub fn tables(side: Side) -> Tables {
     let parts = [
-        single_calls(sides),
-        statements(sides),
-        by_logged_days(sides, "data"),
-        by_logged_days(sides, "register"),
+        single_calls(side),
+        statements(side),
+        by_logged_days(side, "data"),
+        by_logged_days(side, "register"),
     ];
     let count = parts.len();
     let mut number = 0;
     let [calls, statements, data, register] = parts.map(|part| {
         number += 1;
-        let times = part.measure(sides, number, count);
+        let times = part.measure(number, count);
         Table::of(part, times)
     });
     let tables = Tables {
@@ -98,8 +109,8 @@ pub fn tables(sides: &[Side; 2]) -> Tables {
 }
 
 /// Single calls with a full log.
-fn single_calls(sides: &[Side; 2]) -> Part {
-    let line = |row: &Row| checked(sides, row, row.name, row.full_days());
+fn single_calls(side: Side) -> Part {
+    let line = |row: &Row| checked(side, row, row.name, row.full_days());
     Part {
         what: "call, with 123 logged days".to_string(),
         unit: "ns",
@@ -108,9 +119,9 @@ fn single_calls(sides: &[Side; 2]) -> Part {
 }
 
 /// One call of a kind after fewer and more days.
-fn by_logged_days(sides: &[Side; 2], key: &str) -> Part {
+fn by_logged_days(side: Side, key: &str) -> Part {
     let row = row(key).expect("a row's key");
-    let line = |days: usize| checked(sides, row, &days.to_string(), days);
+    let line = |days: usize| checked(side, row, &days.to_string(), days);
     Part {
         what: format!("logged days, {}", row.name),
         unit: "ns",
@@ -118,33 +129,30 @@ fn by_logged_days(sides: &[Side; 2], key: &str) -> Part {
     }
 }
 
-/// The line of a kind of call. Both meters give the same figures, just the
-/// calls that are meant to be are refused, and just those are surcharged.
-fn checked(sides: &[Side; 2], row: &Row, name: &str, days: usize) -> Line {
-    let line = Line::call(name, row, days);
-    let base = line
-        .base
-        .as_ref()
-        .map_or([0; 10], |base| base.agreed(sides));
-    let figures = line.work.agreed(sides);
-    assert_eq!(figures[9], row.refused(line.divisor), "refused calls");
-    assert_eq!(figures[4] > base[4], row.surcharges(), "surcharges");
+/// The line of a kind of call. Both meters agree in all, just the calls that
+/// are meant to be are refused, and just those are surcharged.
+fn checked(side: Side, row: &Row, name: &str, days: usize) -> Line {
+    let line = Line::call(side, name, row, days);
+    let agreed = line.task.agreed();
+    assert_eq!(agreed.refused, row.refused(line.divisor), "refused calls");
+    assert_eq!(agreed.surcharges > 0, row.surcharges(), "surcharges");
     line
 }
 
-/// Whole files, and the calls of the largest one by one: a file's statement
-/// need not look at soundness at each call.
-fn statements(sides: &[Side; 2]) -> Part {
+/// Whole files, the calls of the largest on an account, and the same one by
+/// one: neither a file's statement nor its run looks at soundness at each call.
+fn statements(side: Side) -> Part {
     let calls = most_calls();
+    let most = calls.len();
     let of_file = |count: usize| {
         let work = Work::Statement(file(EARLY, &calls[..count]));
-        line(grouped(count), work, count, sides)
+        line(side, grouped(count), work, count)
     };
     let mut lines: Vec<Line> = CALLS.map(of_file).into();
-    let rest = section(&calls[1..], calls.len() - 1);
-    let work = Work::Calls(file(EARLY, &calls[..1]), rest);
-    let name = format!("{}, each checked", grouped(calls.len()));
-    lines.push(line(name, work, calls.len(), sides));
+    let name = format!("{}, run on an account", grouped(most));
+    lines.push(line(side, name, Work::Run(file(EARLY, &calls)), most));
+    let name = format!("{}, each checked", grouped(most));
+    lines.push(line(side, name, Work::calls(&calls), most));
     Part {
         what: "calls in the file".to_string(),
         unit: "ns a call",
@@ -152,19 +160,24 @@ fn statements(sides: &[Side; 2]) -> Part {
     }
 }
 
-fn line(name: String, work: Work, divisor: usize, sides: &[Side; 2]) -> Line {
-    assert_eq!(work.agreed(sides)[9], 0, "refused calls");
+/// What is done with a file's calls, on an account as it was opened.
+fn line(side: Side, name: String, work: Work, divisor: usize) -> Line {
+    let task = Task::new(side, EARLY, &[], work);
+    assert_eq!(task.agreed().refused, 0, "refused calls");
     Line {
         name,
-        work,
-        base: None,
+        task,
         divisor,
     }
 }
 
-/// The largest file as a whole, from the last two lines of the statements.
+/// The largest file as a whole, from the last three lines of the statements.
 fn largest(statements: &Table) -> Table {
-    let names = ["8,184 calls, 65,536 bytes", "the same calls, each checked"];
+    let names = [
+        "statement: 8,184 calls, 65,536 bytes",
+        "the same file, run on an account",
+        "the same calls, each checked",
+    ];
     let times = &statements.rows[statements.rows.len() - names.len()..];
     let whole = |name: &str, times: [f64; 2]| {
         let whole = times.map(|time| time * MAX_CALLS as f64 / 1000.0);
@@ -172,7 +185,7 @@ fn largest(statements: &Table) -> Table {
     };
     let rows = names.iter().zip(times);
     Table {
-        what: "statement of the largest file".to_string(),
+        what: "the largest file".to_string(),
         unit: "µs",
         rows: rows.map(|(name, (_, times))| whole(name, *times)).collect(),
     }

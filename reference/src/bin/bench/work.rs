@@ -1,14 +1,13 @@
-//! What is measured: kinds of calls, the files that they are made after, and
-//! what a meter is given to do with them.
+//! What is measured: kinds of calls, the calls that they are made after, and
+//! what a meter is given to do.
 
+use crate::meters::{Act, Meter, Proved, Reference, Room};
+use reference::numbers::at;
 use reference::plan::{Plan, PREPAID};
-use reference::sides::{Side, AFFORD_REFUSED};
-use reference::terms::Kind;
+use reference::sides::{Side, ACCEPTED};
+use reference::terms::{Call, Kind, Place};
 use reference::tripfile::{write, BEFORE_CALLS, MAX_CALLS};
 use std::hint::black_box;
-
-/// Code and number of the trip file.
-pub type Words = (u32, u32);
 
 /// A kind of call: its name on the command line and in the tables, the days
 /// before it, and what is done then.
@@ -31,59 +30,75 @@ enum Days {
 
 /// What is done after the days.
 enum Done {
-    /// These calls in turn: each is one.
-    Calls(&'static [Words]),
-    /// These calls together: all of them are one.
-    Group(&'static [Words]),
-    /// Afford of data, with the account lent.
-    Afford,
-    /// Afford of data, with the account taken by value and handed back.
-    AffordByValue,
+    /// These in turn: each is one.
+    Each(&'static [Act]),
+    /// These together: all of them are one.
+    Group(&'static [Call]),
+    /// The caps of the first day.
+    Caps,
 }
 
-const ZONE_DAY: [Words; 6] = [(1, 1), (2, 100), (3, 10), (4, 10), (5, 10), (7, 0)];
+const IN_ZONE: Call = Call::Register(Place::Zone);
+const ZONE_DAY: [Call; 6] = [
+    IN_ZONE,
+    Call::Use(Kind::Data, 100),
+    Call::Use(Kind::Outgoing, 10),
+    Call::Use(Kind::Incoming, 10),
+    Call::Use(Kind::Sms, 10),
+    Call::NextDay,
+];
 
-const fn calls(key: &'static str, name: &'static str, calls: &'static [Words]) -> Row {
+const fn each(key: &'static str, name: &'static str, acts: &'static [Act]) -> Row {
     Row {
         key,
         name,
         days: Days::InTurn,
-        done: Done::Calls(calls),
+        done: Done::Each(acts),
     }
 }
 
-const fn affords(key: &'static str, name: &'static str, done: Done) -> Row {
-    Row {
-        key,
-        name,
-        days: Days::InTurn,
-        done,
-    }
-}
-
-pub static ROWS: [Row; 9] = [
-    calls("data", "use of data", &[(2, 1)]),
-    calls("outgoing", "use of outgoing seconds", &[(3, 1)]),
-    calls(REFUSED, "use refused (4)", &[(2, 0)]),
-    calls(
+pub static ROWS: [Row; 11] = [
+    each(
+        "data",
+        "use of data",
+        &[Act::Call(Call::Use(Kind::Data, 1))],
+    ),
+    each(
+        "outgoing",
+        "use of outgoing seconds",
+        &[Act::Call(Call::Use(Kind::Outgoing, 1))],
+    ),
+    each(
+        REFUSED,
+        "use refused (4)",
+        &[Act::Call(Call::Use(Kind::Data, 0))],
+    ),
+    each(
         "register",
         "register, home and zone in turn",
-        &[(1, 0), (1, 1)],
+        &[Act::Call(Call::Register(Place::Home)), Act::Call(IN_ZONE)],
     ),
-    calls("topup", "top-up in the zone", &[(6, 1)]),
-    calls("nextday", "next day", &[(7, 0)]),
+    each("topup", "top-up in the zone", &[Act::Call(Call::TopUp(1))]),
+    each("nextday", "next day", &[Act::Call(Call::NextDay)]),
     Row {
         key: "zoneday",
         name: "a day in the zone, zone days prevailing",
         days: Days::Zone,
         done: Done::Group(&ZONE_DAY),
     },
-    affords("afford", "Afford of data", Done::Afford),
-    affords(
-        "affordvalue",
-        "Afford of data, by the method",
-        Done::AffordByValue,
+    each(
+        "afford",
+        "Afford of data",
+        &[Act::Call(Call::Afford(Kind::Data))],
     ),
+    each("sound", "is it sound", &[Act::IsSound]),
+    each("open", "open", &[Act::Open]),
+    Row {
+        key: "caps",
+        name: "caps of a day",
+        days: Days::InTurn,
+        done: Done::Caps,
+    },
 ];
 
 /// The row whose calls are all refused.
@@ -94,30 +109,43 @@ pub fn row(key: &str) -> Option<&'static Row> {
     ROWS.iter().find(|row| row.key == key)
 }
 
-/// What a meter is given to do.
+/// What a meter is given to do with its account.
 pub enum Work {
+    /// These, one by one.
+    Acts(Vec<Act>),
     /// The statement of a file.
     Statement(Vec<u8>),
-    /// A file, then the calls of a calls section one by one.
-    Calls(Vec<u8>, Vec<u8>),
-    /// Afford of data after a file, so many times.
-    Afford(Vec<u8>, u64),
-    /// The same by value.
-    AffordByValue(Vec<u8>, u64),
+    /// The calls of a file.
+    Run(Vec<u8>),
+}
+
+/// A work, and both meters with the account that it is done on.
+pub struct Task {
+    pub work: Work,
+    pub proved: Proved,
+    pub reference: Reference,
+}
+
+/// What both meters agree on when a task is done.
+pub struct Agreed {
+    pub refused: usize,
+    /// Surcharges that came with it.
+    pub surcharges: u64,
 }
 
 impl Row {
-    /// Its days from the day on, then so many of it. Afford is asked once more,
-    /// as the question for no answer at all is none.
-    pub fn work(&self, start: u32, days: usize, count: usize) -> Work {
-        let file = self.days.file(start, days);
-        let times = 1 + count as u64;
-        match self.done {
-            Done::Calls(calls) => Work::Calls(file, section(calls, count)),
-            Done::Group(calls) => Work::Calls(file, section(calls, count * calls.len())),
-            Done::Afford => Work::Afford(file, times),
-            Done::AffordByValue => Work::AffordByValue(file, times),
-        }
+    /// Its days from the day on, then so many of it.
+    pub fn task(&self, side: Side, start: u32, days: usize, count: usize) -> Task {
+        let acts = match self.done {
+            Done::Each(acts) => acts.iter().copied().cycle().take(count).collect(),
+            Done::Group(calls) => {
+                let calls = calls.iter().cycle().take(count * calls.len());
+                calls.map(|call| Act::Call(*call)).collect()
+            }
+            Done::Caps => vec![Act::Caps(u64::from(start)); count],
+        };
+        let before = self.days.calls(days);
+        Task::new(side, start, &before, Work::Acts(acts))
     }
 
     /// Day changes that fill the log; in the zone some more, until each service
@@ -129,18 +157,20 @@ impl Row {
         }
     }
 
-    /// How many of it are some 300 calls.
+    /// How many of it are timed at once: some 300 calls, and more of what takes
+    /// just some nanoseconds.
     pub fn count(&self) -> usize {
         match self.done {
+            Done::Each(_) => 300,
             Done::Group(calls) => 300 / calls.len(),
-            _ => 300,
+            Done::Caps => 3000,
         }
     }
 
     /// How many of so many calls are meant to be refused.
-    pub fn refused(&self, count: usize) -> u64 {
+    pub fn refused(&self, count: usize) -> usize {
         if self.key == REFUSED {
-            count as u64
+            count
         } else {
             0
         }
@@ -153,84 +183,158 @@ impl Row {
 }
 
 impl Days {
-    /// The file of so many days, with the entry into the zone after them.
-    fn file(self, start: u32, count: usize) -> Vec<u8> {
+    /// The calls of so many days, with the entry into the zone after them.
+    fn calls(self, count: usize) -> Vec<Call> {
         let mut calls = match self {
             Days::InTurn => days_in_turn(count),
             Days::Zone => zone_days(count),
         };
-        calls.push((1, 1));
-        file(start, &calls)
+        calls.push(IN_ZONE);
+        calls
     }
 }
 
-const PAYMENTS: [Words; 2] = [(6, 10_000_000), (6, 10_000_000)];
+const PAYMENTS: [Call; 2] = [Call::TopUp(10_000_000), Call::TopUp(10_000_000)];
 
-fn days_in_turn(count: usize) -> Vec<Words> {
+fn days_in_turn(count: usize) -> Vec<Call> {
     let mut calls = PAYMENTS.to_vec();
     for day in 0..count {
-        let (place, n) = if day % 2 == 0 { (0, 20) } else { (1, 10) };
-        calls.extend([(1, place), (2, 10 * n), (3, n), (4, n), (5, n), (7, 0)]);
+        let (place, n) = if day % 2 == 0 {
+            (Place::Home, 20)
+        } else {
+            (Place::Zone, 10)
+        };
+        calls.extend([
+            Call::Register(place),
+            Call::Use(Kind::Data, 10 * n),
+            Call::Use(Kind::Outgoing, n),
+            Call::Use(Kind::Incoming, n),
+            Call::Use(Kind::Sms, n),
+            Call::NextDay,
+        ]);
     }
     calls
 }
 
-fn zone_days(count: usize) -> Vec<Words> {
+fn zone_days(count: usize) -> Vec<Call> {
     let mut calls = PAYMENTS.to_vec();
     (0..count).for_each(|_| calls.extend(ZONE_DAY));
     calls
 }
 
 /// The calls of the largest file.
-pub fn most_calls() -> Vec<Words> {
+pub fn most_calls() -> Vec<Call> {
     let mut calls = days_in_turn(MAX_CALLS / 6 + 1);
     calls.truncate(MAX_CALLS);
     calls
 }
 
+fn plan_from(start: u32) -> Plan {
+    Plan::from_words([PREPAID, start, 10_000, 60, 50, 0, 0])
+}
+
 /// The file of a prepaid plan.
-pub fn file(start: u32, calls: &[Words]) -> Vec<u8> {
-    let plan = Plan::from_words([PREPAID, start, 10_000, 60, 50, 0, 0]);
-    let (codes, numbers): (Vec<u32>, Vec<u32>) = calls.iter().copied().unzip();
+pub fn file(start: u32, calls: &[Call]) -> Vec<u8> {
+    let words = calls
+        .iter()
+        .map(|call| call.to_words().expect("a call of a file"));
+    let (codes, numbers): (Vec<u32>, Vec<u32>) = words.unzip();
     let mut bytes = vec![0; BEFORE_CALLS + 8 * calls.len()];
-    write(&plan, &codes, &numbers, &mut bytes).expect("the calls fit in a file");
+    write(&plan_from(start), &codes, &numbers, &mut bytes).expect("the calls fit in a file");
     bytes
 }
 
-/// The calls section of so many calls, taken in turn.
-pub fn section(calls: &[Words], count: usize) -> Vec<u8> {
-    let words = calls.iter().cycle().take(count);
-    words.flat_map(|(code, n)| bytes_of(*code, *n)).collect()
-}
-
-fn bytes_of(code: u32, number: u32) -> impl Iterator<Item = u8> {
-    [code, number].into_iter().flat_map(u32::to_le_bytes)
-}
-
 impl Work {
-    /// Has a meter do it; answers its number, and fills in the figures where
-    /// it gives some.
-    pub fn run(&self, side: &Side, figures: &mut [u64; 10]) -> u64 {
+    /// The calls, one by one.
+    pub fn calls(calls: &[Call]) -> Work {
+        Work::Acts(calls.iter().map(|call| Act::Call(*call)).collect())
+    }
+
+    /// Has a meter do it.
+    pub fn run<M: Meter>(&self, meter: &mut M, answer: &mut Room) {
         match black_box(self) {
-            Work::Statement(file) => (side.statement)(file, figures),
-            Work::Calls(file, more) => (side.calls)(file, more, figures),
-            Work::Afford(file, times) => (side.afford)(file, Kind::Data, *times),
-            Work::AffordByValue(file, times) => (side.afford_by_value)(file, Kind::Data, *times),
+            Work::Acts(acts) => {
+                for act in acts {
+                    black_box(meter.act(*act, answer));
+                }
+            }
+            Work::Statement(file) => {
+                black_box(meter.statement(file, answer));
+            }
+            Work::Run(file) => {
+                black_box(meter.run(file, answer));
+            }
         }
     }
 
-    /// The figures that both meters give, which agree, as their answers do;
-    /// nothing is declined.
-    pub fn agreed(&self, sides: &[Side; 2]) -> [u64; 10] {
-        let mut figures = [[0; 10]; 2];
-        let mut number = |side: usize| self.run(&sides[side], &mut figures[side]);
-        let numbers = [number(0), number(1)];
-        assert_eq!(numbers[0], numbers[1], "the answers agree");
-        assert_eq!(figures[0], figures[1], "the figures agree");
+    /// The number and the answer of each part of it, and how many of its calls
+    /// were refused.
+    fn told<M: Meter>(&self, meter: &mut M) -> (Vec<(u64, Room)>, usize) {
+        let mut room = Room::default();
         match self {
-            Work::Statement(_) | Work::Calls(..) => assert_eq!(numbers[0], 0, "the file is read"),
-            _ => assert!(numbers[0] < AFFORD_REFUSED, "Afford is answered"),
+            Work::Acts(acts) => {
+                let told = acts.iter().map(|act| (meter.act(*act, &mut room), room));
+                let told: Vec<(u64, Room)> = told.collect();
+                let refused = told.iter().filter(|(number, _)| *number != ACCEPTED);
+                let refused = refused.count();
+                (told, refused)
+            }
+            Work::Statement(file) => {
+                let number = meter.statement(file, &mut room);
+                assert_eq!(number, ACCEPTED, "the file is read");
+                (vec![(number, room)], room[8] as usize)
+            }
+            Work::Run(file) => {
+                let number = meter.run(file, &mut room);
+                assert_eq!(number, ACCEPTED, "the file is read");
+                (vec![(number, room)], room[0] as usize)
+            }
         }
-        figures[0]
+    }
+}
+
+impl Task {
+    /// A work on accounts that were opened on a day and then had these calls,
+    /// all accepted.
+    pub fn new(side: Side, start: u32, before: &[Call], work: Work) -> Task {
+        let plan = plan_from(start);
+        let mut proved = Proved::opened(side, &plan);
+        let mut reference = Reference::opened(&plan);
+        let mut room = Room::default();
+        for call in before {
+            let act = Act::Call(*call);
+            let numbers = [
+                proved.act(act, &mut room),
+                reference.act(act, &mut Room::default()),
+            ];
+            assert_eq!(numbers, [ACCEPTED; 2], "{call:?} is accepted");
+        }
+        Task {
+            work,
+            proved,
+            reference,
+        }
+    }
+
+    /// What both meters agree on, which is every number and every answer of the
+    /// work, and the account before it and after it.
+    pub fn agreed(&self) -> Agreed {
+        let (mut proved, mut reference) = (self.proved.clone(), self.reference.clone());
+        let before = proved.numbers();
+        assert!(before == reference.numbers(), "the accounts agree");
+        let (told, refused) = self.work.told(&mut proved);
+        let (same, _) = self.work.told(&mut reference);
+        assert_eq!(told, same, "the answers agree");
+        let after = proved.numbers();
+        assert!(
+            after == reference.numbers(),
+            "the accounts agree after the work"
+        );
+        // An account that is opened anew has fewer.
+        let surcharges = after[at::SURCHARGES].saturating_sub(before[at::SURCHARGES]);
+        Agreed {
+            refused,
+            surcharges,
+        }
     }
 }

@@ -7,7 +7,7 @@ use Rattle.account.proofs.Account.afford.Tie as tie
 
 returns : tie.Need-returns
 unfolding applied
-returns c = let a = c .before .before .before .before .args in
+returns c = let a = c .before .before .before .before .before .args in
     simp (c .afford-with .ensures, afford-keeps (a .t1) (a .k))
 
 pub afford-spec : {M : Type 1} → statement M

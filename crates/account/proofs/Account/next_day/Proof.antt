@@ -7,7 +7,7 @@ use Rattle.account.proofs.Account.next_day.Tie as tie
 
 returns : tie.Need-returns
 returns c = let a = c .before .before .before .before .args in
-    simp (c .before .next-day-with .ensures .0) (joined-applied (a .t1) NextDay _ (c .before .next-day-with .ensures .1))
+    simp (c .before .next-day-held .ensures .0) (joined-applied (a .t1) NextDay _ (c .before .next-day-held .ensures .1))
 
 pub next-day-spec : {M : Type 1} → statement M
 next-day-spec = tie.close (tie.spec (λ c κs. search needs) returns)

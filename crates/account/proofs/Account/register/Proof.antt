@@ -7,7 +7,7 @@ use Rattle.account.proofs.Account.register.Statement.{statement}
 use Rattle.account.proofs.Account.register.Tie as tie
 
 returns : tie.Need-returns
-returns c = let a = c .before .before .before .before .before .args in
+returns c = let a = c .before .before .before .before .before .before .args in
     simp (c .before .register-with .ensures) (joined-applied (a .t1) (Register (a .p)) (a .t1 .log) (sym (register-keeps (a .t1) (a .p))))
 
 pub register-spec : {M : Type 1} → statement M

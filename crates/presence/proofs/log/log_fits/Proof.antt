@@ -15,46 +15,47 @@ use Rattle.presence.proofs.log.log_fits.Statement.{statement}
 use Rattle.presence.proofs.log.log_fits.Tie as tie
 
 returns : tie.Need-returns
-returns c = let d = c .before .before in
+returns c = let d = c .before .before .before in
     let a = d .args in
     sym (rest-refused (a .log .now) (a .today) (a .n) (a .lifetime) (d .pre .0) (λ z. omega (arith, c .before .bits-between .ensures, c .if1 .taken, z)))
 
 returns-2 : tie.Need-returns-2
-returns-2 c = let d = c .before .before .before .before in
+returns-2 c = let d = c .before .before .before .before .before in
     let a = d .args in
     sym (marks-refused (a .log .now) (a .today) (a .n) (a .lifetime) (d .pre .0) (omega (arith, c .before .marks-bits .ensures, c .if2 .taken)))
 
 -- the bits that the third test looks at
-units-bits : (c : tie.After-day-bits) → let a = c .before .before .before .before .before .before .args in
+units-bits : (c : tie.After-day-bits) → let a = c .before .before .before .before .before .before .before .args in
     bitOr (c .before .bits-between2 .result) (c .day-bits .result) ≡ bitOr (bits-of (place-from 0 (a .log .now)) (13 * a .n - 0)) (day-bits (a .today))
 units-bits c = rw (c .before .bits-between2 .ensures, c .day-bits .ensures) refl
 
 returns-3 : tie.Need-returns-3
-returns-3 c = let d = c .before .before .before .before .before .before .before in
+returns-3 c = let d = c .before .before .before .before .before .before .before .before in
     let a = d .args in
     sym (units-refused (a .log .now) (a .today) (a .n) (a .lifetime) (d .pre .0) (d .pre .1) (omega (arith, units-bits (c .before), c .if3 .taken)))
 
 -- past the three tests all numbers of the log's days and of today are below 2^40
-units-low : (c : tie.Else3) → let a = c .before .before .before .before .before .before .before .args in
+units-low : (c : tie.Else3) → let a = c .before .before .before .before .before .before .before .before .args in
     UnitsFit (a .n) (a .log .now) × Bounded (day-units (a .today))
-units-low c = let a = c .before .before .before .before .before .before .before .args in
+units-low c = let a = c .before .before .before .before .before .before .before .before .args in
     let b = bits-of (place-from 0 (a .log .now)) (13 * a .n - 0) in
     let h : bitOr b (day-bits (a .today)) < 1099511627776 = omega (arith, units-bits (c .before), c .if3 .left) in
     let l = or-both 1099511627776 b (day-bits (a .today)) h in
     (units-fit (a .n) (a .log .now) (l .0), bits-bounded (a .today) (l .1))
 
 tally-requires : tie.Need-tally-requires
-tally-requires c κs = (c .before .before .before .before .before .before .before .pre .0, units-low c .0)
+tally-requires c κs = let d = c .before .before .before .before .before .before .before .before in
+    (d .pre .0, units-low c .0, d .pre .2)
 
 add-day-requires : tie.Need-add-day-requires
-add-day-requires c κs = let d = c .before .before .before .before .before .before .before .before in
+add-day-requires c κs = let d = c .before .before .before .before .before .before .before .before .before in
     let a = d .args in
     let u = units-low (c .before) in
     (rw (c .tally .ensures) (over-room (a .n) (a .n) (a .log .now) (d .pre .0) (le-refl (a .n)) (u .0)), u .1)
 
 returns-4 : tie.Need-returns-4
 returns-4 c = let m = c .before .before .before .before .before .before in
-    let d = m .before .before .before .before in
+    let d = m .before .before .before .before .before in
     let a = d .args in
     let xs = a .log .now in
     let sum : c .before .add-day .result ≡ day-units (a .today) ⊕ units-over (a .n) (days-of xs) =
@@ -72,7 +73,7 @@ log-fits-spec =
     (λ c. omega arith)
     (λ c κs. omega arith)
     returns
-    (λ c κs. c .before .before .pre .0)
+    (λ c κs. (c .before .before .before .pre .0, c .before .before .before .pre .2))
     returns-2
     (λ c κs. omega arith)
     (λ c κs. tt)

@@ -40,4 +40,5 @@ shift-days-spec =
     (λ c. omega arith)
     (λ c. omega arith)
     loop-again
+    (λ c. omega (arith, c .before .loop .inv))
     returns)

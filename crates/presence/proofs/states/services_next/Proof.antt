@@ -13,7 +13,7 @@ unfolding services-after
 returns c = let w = c .before .before .before in
     let t = w .before .before in
     let u = t .before .before .before in
-    let a = u .before .before .before .args in
+    let a = u .before .before .before .before .args in
     let ds = days-of (a .log .now) in
     let l = u .before .before .asks-long in
     let l2 = u .before .asks-long2 in
@@ -44,8 +44,8 @@ services-next-spec =
     (λ c κs. tt)
     (λ c κs. tt)
     (λ c κs. tt)
-    (λ c κs. c .before .before .before .before .before .before .pre)
     (λ c κs. c .before .before .before .before .before .before .before .pre)
+    (λ c κs. c .before .before .before .before .before .before .before .before .pre)
     (λ c κs. tt)
     (λ c κs. tt)
     (λ c κs. tt)

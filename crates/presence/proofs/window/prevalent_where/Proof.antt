@@ -8,9 +8,10 @@ use Rattle.presence.proofs.window.prevalent_where.Statement.{statement}
 use Rattle.presence.proofs.window.prevalent_where.Tie as tie
 
 prevalent-over-requires : tie.Need-prevalent-over-requires
-prevalent-over-requires c κs = let d = c .before .before in
+prevalent-over-requires c κs = let d = c .before .before .before in
     let a = d .args in
-    fewer-low (c .lesser .result) (a .n) (days-of (a .log .now)) (omega (arith, c .lesser .ensures)) (d .pre .0) (d .pre .1)
+    let f = fewer-low (c .lesser .result) (a .n) (days-of (a .log .now)) (omega (arith, c .lesser .ensures)) (d .pre .0) (d .pre .1) in
+    (f .0, f .1, d .pre .2)
 
 returns : tie.Need-returns
 unfolding prevalent

@@ -1,6 +1,10 @@
 -- `presence::window::zone_exceeds` meets its contract. Assumes nothing.
+use borrow.Author.Needs.{needs}
 use Rattle.presence.proofs.window.zone_exceeds.Statement.{statement}
 use Rattle.presence.proofs.window.zone_exceeds.Tie as tie
 
+returns : tie.Need-returns
+returns c = (simp (c .units-sum2 .ensures .0, c .before .before .units-sum .ensures .0), c .units-sum2 .ensures .1)
+
 pub zone-exceeds-spec : {M : Type 1} → statement M
-zone-exceeds-spec = tie.close (tie.spec (λ c κs. c .pre) (λ c κs. c .before .pre) (λ c. simp (c .other-sum .ensures, c .before .zone-sum .ensures)))
+zone-exceeds-spec = tie.close (tie.spec (λ c κs. search needs) (λ c κs. search needs) returns)

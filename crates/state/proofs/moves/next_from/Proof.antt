@@ -9,14 +9,16 @@ use Rattle.state.proofs.moves.next_from.Statement.{statement}
 use Rattle.state.proofs.moves.next_from.Tie as tie
 
 add-least : tie.Need-add-least
-add-least c = let f = counters-tell (c .before .before .before .before .args .a) (c .before .before .before .before .pre .counters) in omega (arith, f .logged-ok)
+add-least c = let d = c .before .before .before .before .before in
+    let f = counters-tell (d .args .a) (d .pre .0 .counters) in omega (arith, f .logged-ok)
 
 services-next-requires : tie.Need-services-next-requires
-services-next-requires c κs = (rw (c .least .ensures) (omega arith), rw (c .least .ensures) (c .before .before .before .before .before .pre .within))
+services-next-requires c κs = let d = c .before .before .before .before .before .before in
+    (rw (c .least .ensures) (omega arith), rw (c .least .ensures) (d .pre .0 .within), d .pre .1)
 
 allowance-of-requires : tie.Need-allowance-of-requires
-allowance-of-requires c κs = let d = c .before .before .before .before .before .before .before .before .before in
-    let r = plan-of-state (d .args .a) (counters-tell (d .args .a) (d .pre .counters)) in
+allowance-of-requires c κs = let d = c .before .before .before .before .before .before .before .before .before .before in
+    let r = plan-of-state (d .args .a) (counters-tell (d .args .a) (d .pre .0 .counters)) in
     rw (c .caps-of .ensures) (omega (arith, r, caps-bound (d .args .a .day + 1)))
 
 returns : tie.Need-returns

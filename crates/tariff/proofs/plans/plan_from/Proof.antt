@@ -14,23 +14,21 @@ returns c = simp (lt-ltb _ _ (c .if1 .taken))
 returns-2 : tie.Need-returns-2
 unfolding plan-of
 returns-2 c =
-    let known = c .before .before .before in
-    let form = known .before .before in
-    simp (known-form (form .before .args .t) (known .if1 .left), ← form .form-at .ensures, ← c .before .before .check-plan .ensures, c .enum-told .given .1)
+    let made = c .before .before .before in
+    simp (known-form (made .before .before .before .args .t) (made .before .if1 .left), ← made .plan-with .ensures, ← c .before .before .check-plan .ensures, c .enum-told .given .1)
 
 returns-3 : tie.Need-returns-3
 unfolding plan-of
 returns-3 c =
-    let known = c .before .before .before .before in
-    let form = known .before .before in
-    simp (known-form (form .before .args .t) (known .if1 .left), ← form .form-at .ensures, ← c .before .before .before .check-plan .ensures, c .before .verdict .given .1)
+    let made = c .before .before .before .before in
+    simp (known-form (made .before .before .before .args .t) (made .before .if1 .left), ← made .plan-with .ensures, ← c .before .before .before .check-plan .ensures, c .before .verdict .given .1)
 
 pub plan-from-spec : {M : Type 1} → statement M
 plan-from-spec =
     tie.close
     (tie.spec
-    (λ c κs. search needs)
     returns
+    (λ c κs. search needs)
     (λ c κs. search needs)
     (λ c. search needs)
     (λ c. search needs)

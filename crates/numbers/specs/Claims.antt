@@ -1,0 +1,25 @@
+-- What ties accounts and numbers. Assumes nothing.
+use Prim.Native.Nat.{ℕ}
+use mathlib.Core.Path.{_≡_}
+use mathlib.Core.Bool.{true}
+use mathlib.Core.List.{List}
+use lib.ListN.{length}
+use Rattle.account.specs.declared.Account.{Account}
+use Rattle.numbers.specs.Numbers.{account-numbers, account-from, is-account}
+
+-- every account is the account of its numbers, and these stand for an account. That the log has 1,599 numbers the
+-- type of an account says
+pub record AccountBack (a : Account) : Type 0 where
+  pub known : is-account (account-numbers a) ≡ true
+  pub back : account-from (account-numbers a) ≡ a
+
+abbrev pub AccountOfItsNumbers : Type 0
+AccountOfItsNumbers = (a : Account) → length (a .log) ≡ 1599 → AccountBack a
+
+-- numbers that stand for an account are that account's numbers: no account has two
+pub record NumbersBack (xs : List ℕ) : Type 0 where
+  pub sized : length (account-from xs .log) ≡ 1599
+  pub back : account-numbers (account-from xs) ≡ xs
+
+abbrev pub NumbersOfTheirAccount : Type 0
+NumbersOfTheirAccount = (xs : List ℕ) → is-account xs ≡ true → NumbersBack xs
