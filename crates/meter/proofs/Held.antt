@@ -188,6 +188,10 @@ calls-follow a c h =
     }
 
 -- a refused one leaves the numbers
+handed-back : (a : Account) (c : Call) → accepts a c ≡ false → applied a c .account ≡ a
+unfolding applied
+handed-back a c n = refused-changes-nothing a c n
+
 pub refused-changes-no-number : RefusedChangesNoNumber
 unfolding call-answer call-numbers
 refused-changes-no-number xs c h = go (is-account xs) refl h
@@ -196,5 +200,4 @@ refused-changes-no-number xs c h = go (is-account xs) refl h
     go false e k = refl
     go true e k =
         let n : accepts (account-from xs) c ≡ false = sym (taken-is (account-from xs) c) ∙ k in
-        let same : applied (account-from xs) c .account ≡ account-from xs = (unfold applied in refused-changes-nothing (account-from xs) c n) in
-        ap account-numbers same ∙ numbers-back xs e .back
+        ap account-numbers (handed-back (account-from xs) c n) ∙ numbers-back xs e .back

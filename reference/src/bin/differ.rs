@@ -1,9 +1,10 @@
-//! differ [--seed S] [--trips N] [--damaged N] [--accounts N] [--seconds T]: the
-//! caps of every day up to 4,000 and of larger numbers, random trips call by
-//! call, files sound and damaged, as many random writes as files, and accounts
-//! of any numbers, through the proved meter and this crate's. Ends with 1 if
-//! they disagree or if demand 3 fails, with 3 if an event was missed, and with 2
-//! if the proved library is missing. The processors share the work.
+//! differ [--seed S] [--trips N] [--damaged N] [--accounts N] [--seconds T]
+//! [--events]: the caps of every day up to 4,000 and of larger numbers, random
+//! trips call by call, files sound and damaged, as many random writes as files,
+//! and accounts of any numbers, through the proved meter and this crate's. The
+//! processors share the work. Shows the events that were reached by the fewest,
+//! or all of them. Ends with 1 if the meters disagree or if demand 3 fails, with
+//! 3 if an event was missed, and with 2 if the proved library is missing.
 
 use reference::coverage::events;
 use reference::differ::{Differ, Mismatch, ACCOUNTS_OF_A_SEED};
@@ -18,8 +19,10 @@ const TRIPS: u64 = 20_000;
 const FILES: u64 = 20_000;
 const ACCOUNTS: u64 = 200_000;
 const PROGRESS: Duration = Duration::from_secs(10);
-const USAGE: &str =
-    "usage: differ [--seed S] [--trips N] [--damaged N] [--accounts N] [--seconds T]";
+/// So many of the events are shown that were reached by the fewest.
+const SCARCEST: usize = 10;
+const USAGE: &str = "usage: differ [--seed S] [--trips N] [--damaged N] [--accounts N] \
+                     [--seconds T] [--events]";
 
 #[derive(Default)]
 struct Options {
@@ -28,6 +31,8 @@ struct Options {
     damaged: Option<u64>,
     accounts: Option<u64>,
     seconds: Option<u64>,
+    /// Whether all events are shown.
+    events: bool,
 }
 
 fn options() -> Option<Options> {
@@ -40,6 +45,10 @@ fn options() -> Option<Options> {
             "--damaged" => &mut options.damaged,
             "--accounts" => &mut options.accounts,
             "--seconds" => &mut options.seconds,
+            "--events" => {
+                options.events = true;
+                continue;
+            }
             _ => return None,
         };
         *field = Some(args.next()?.parse().ok()?);
@@ -103,7 +112,7 @@ fn main() -> ExitCode {
         println!("differ: {}, 1 mismatch", counts(&differ));
         return ExitCode::FAILURE;
     }
-    let missing = print_events(&differ, goal.seed);
+    let missing = print_events(&differ, goal.seed, options.events);
     print_times(&differ, took);
     println!("differ: {}, 0 mismatches", counts(&differ));
     if missing == 0 {
@@ -114,13 +123,21 @@ fn main() -> ExitCode {
     }
 }
 
-/// How often each event was reached, and which were not; answers how many.
-fn print_events(differ: &Differ, seed: u64) -> usize {
-    let (coverage, events) = (differ.coverage(), events());
+/// How often the scarcest events were reached, or all of them, and which were
+/// not; answers how many.
+fn print_events(differ: &Differ, seed: u64, all: bool) -> usize {
+    let (coverage, mut events) = (differ.coverage(), events());
+    let missing = coverage.missing(&events);
+    let reached = events.len() - missing.len();
+    println!("{reached} of {} events reached by both sides", events.len());
+    if !all {
+        events.retain(|event| coverage.count(event) > 0);
+        events.sort_by_key(|event| coverage.count(event));
+        events.truncate(SCARCEST);
+    }
     for event in &events {
         println!("{:7} {event}", coverage.count(event));
     }
-    let missing = coverage.missing(&events);
     for event in &missing {
         println!("missed from seed {seed}: {event}");
     }

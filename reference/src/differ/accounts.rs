@@ -111,7 +111,8 @@ impl Differ {
             Step::NextDay,
         ];
         for step in steps {
-            self.stepped(account, step, ROOM, events)?;
+            let room = step.answers() + rng.below(3) as usize;
+            self.stepped(account, step, room, events)?;
         }
         self.afforded(account, rng, events)?;
         if rng.chance(20) {
@@ -150,7 +151,8 @@ impl Differ {
         events: &mut Both,
     ) -> Result<(), Failure> {
         let kind = rng.below(4);
-        let (returned, most) = self.stepped(account, Step::Afford(kind), ROOM, events)?;
+        let room = AFFORD_NUMBERS + rng.below(2) as usize;
+        let (returned, most) = self.stepped(account, Step::Afford(kind), room, events)?;
         if returned != ACCEPTED {
             return Ok(());
         }

@@ -106,7 +106,7 @@ impl Differ {
         self.longest = self.longest.max(case.calls.len());
         for (index, call) in case.calls.iter().enumerate() {
             let step = Step::from(*call);
-            let room = ROOM - rng.below(4) as usize;
+            let room = step.answers() + rng.below(4) as usize;
             let stepped = run.step(&self.other, step, room, events);
             let returned = stepped.map_err(|what| format!("call {index}, {what}"))?;
             let in_file = call.to_words().is_some();

@@ -74,7 +74,7 @@ impl Differ {
             }
         }
         self.read(file, rng, events)?;
-        self.find(file, &[PLAN_KIND, CALLS_KIND], events)?;
+        self.find(file, &[PLAN_KIND, CALLS_KIND], rng, events)?;
         if small {
             self.run_on(&run.ours.numbers, file, rng, events)?;
             self.reader(&file[BEFORE_CALLS..], rng, events)?;
@@ -131,7 +131,7 @@ impl Differ {
         let number = self.read(file, rng, events)?;
         self.run_on(base, file, rng, events)?;
         let any = rng.word() as u32;
-        self.find(file, &[0, 1, 2, 3, 4, 7, u32::MAX, any], events)?;
+        self.find(file, &[0, 1, 2, 3, 4, 7, u32::MAX, any], rng, events)?;
         self.reader(file, rng, events)?;
         if number == ACCEPTED {
             self.write_again(file, rng, events)?;
@@ -159,9 +159,16 @@ impl Differ {
     }
 
     /// The sections of some kinds.
-    fn find(&mut self, file: &[u8], kinds: &[u32], events: &mut Both) -> Result<(), Failure> {
+    fn find(
+        &mut self,
+        file: &[u8],
+        kinds: &[u32],
+        rng: &mut Rng,
+        events: &mut Both,
+    ) -> Result<(), Failure> {
         for kind in kinds {
-            let found = self.ask(Function::Find, FIND_NUMBERS, ROOM, |side, answer| {
+            let room = self.room(FIND_NUMBERS, rng);
+            let found = self.ask(Function::Find, FIND_NUMBERS, room, |side, answer| {
                 (side.find)(file, *kind, answer)
             });
             let found = found.map_err(|what| format!("of kind {kind}: {what}"))?;
@@ -236,7 +243,8 @@ impl Differ {
             rng.pick(&[end + 1, usize::MAX - 7, usize::MAX - 1, usize::MAX]),
         ];
         for position in positions {
-            let given = self.ask(Function::Call, CALL_NUMBERS, ROOM, |side, answer| {
+            let room = self.room(CALL_NUMBERS, rng);
+            let given = self.ask(Function::Call, CALL_NUMBERS, room, |side, answer| {
                 (side.call)(section, position, answer)
             });
             let given = given.map_err(|what| format!("at {position} of {end}: {what}"))?;
