@@ -127,8 +127,8 @@ uint64_t meter_read(const uint8_t *file, size_t file_bytes, uint64_t *answer, si
  * bytes it has. Refusals: 10, 11, 12, 13. */
 uint64_t meter_find(const uint8_t *file, size_t file_bytes, uint32_t kind, uint64_t *answer, size_t answer_numbers);
 
-/* Writes the trip file of a plan and of calls, each a code and a number, into a buffer; the bytes after it stay. Answer:
- * how many bytes it has. Refusals: 1, 17, 18, 2, 14, 15, 16. */
+/* Writes the trip file of a plan and of calls, each a code and a number, into a buffer; the bytes after it stay.
+ * Answer: how many bytes it has. Refusals: 1, 17, 18, 2, 14, 15, 16. */
 uint64_t meter_write(const uint64_t *plan, size_t plan_numbers, const uint32_t *codes, size_t code_count,
                      const uint32_t *numbers, size_t number_count, uint8_t *buffer, size_t buffer_bytes,
                      uint64_t *answer, size_t answer_numbers);
@@ -138,8 +138,8 @@ uint64_t meter_write(const uint64_t *plan, size_t plan_numbers, const uint32_t *
 uint64_t meter_call(const uint8_t *section, size_t section_bytes, size_t position, uint64_t *answer,
                     size_t answer_numbers);
 
-/* The wholesale caps of a day. Answer: points per GB, per outgoing minute, per incoming minute and per SMS, and how many
- * rows of the table were read to find them. */
+/* The wholesale caps of a day. Answer: points per GB, per outgoing minute, per incoming minute and per SMS, and how
+ * many rows of the table were read to find them. */
 uint64_t meter_caps(uint64_t day, uint64_t *answer, size_t answer_numbers);
 
 #ifdef __cplusplus

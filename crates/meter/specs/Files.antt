@@ -22,7 +22,8 @@ use Rattle.replay.specs.Replay.{replay-of}
 use Rattle.report.specs.declared.Figures.{Figures}
 use Rattle.report.specs.declared.Report.{Report}
 use Rattle.report.specs.declared.Report.the-variants as Reported
-use Rattle.numbers.specs.Numbers.{units-numbers, plan-numbers, allowance-number, terms-from, account-numbers, account-from}
+use Rattle.numbers.specs.Numbers.{units-numbers, plan-numbers, allowance-number, terms-from}
+use Rattle.numbers.specs.Numbers.{account-numbers, account-from}
 use Rattle.meter.specs.Answers.{accepted, bad-argument, section-end, laid, verdict-code}
 use Rattle.meter.specs.Calls.{sound-numbers}
 
@@ -84,10 +85,12 @@ unfoldable pub plan-with-room : List ℕ → List ℕ → Bool
 plan-with-room ts ys = eqb (length ts) 7 && leb 1 (length ys)
 
 unfoldable pub write-code : List ℕ → List ℕ → List ℕ → List ℕ → List ℕ → ℕ
-write-code ts cs ns buf ys = cond (plan-with-room ts ys) (written-code (written-by (plan-of (terms-from ts)) cs ns buf)) bad-argument
+write-code ts cs ns buf ys = cond (plan-with-room ts ys)
+    (written-code (written-by (plan-of (terms-from ts)) cs ns buf)) bad-argument
 
 unfoldable pub write-laid : List ℕ → List ℕ → List ℕ → List ℕ → List ℕ → List ℕ
-write-laid ts cs ns buf ys = cond (plan-with-room ts ys) (written-laid (written-by (plan-of (terms-from ts)) cs ns buf) ys) ys
+write-laid ts cs ns buf ys = cond (plan-with-room ts ys)
+    (written-laid (written-by (plan-of (terms-from ts)) cs ns buf) ys) ys
 
 unfoldable pub write-buffer : List ℕ → List ℕ → List ℕ → List ℕ → List ℕ → List ℕ
 write-buffer ts cs ns buf ys = cond (plan-with-room ts ys) (buffer-by (plan-of (terms-from ts)) cs ns buf) buf

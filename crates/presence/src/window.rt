@@ -15,7 +15,8 @@ ghost use lib.ListN.{length};
 ghost use Rattle.presence.specs.Day.{day-units, zone-day, on-day};
 ghost use Rattle.presence.specs.Window.{zone-units, other-units, sum-days};
 ghost use Rattle.presence.specs.Log.{days-of, units-over};
-ghost use Rattle.presence.specs.Held.{Low, SameMarks, marked-day, prevalent-over, prevalent-where, column, InColumn, sum-first};
+ghost use Rattle.presence.specs.Held.{Low, SameMarks, marked-day, column, InColumn, sum-first};
+ghost use Rattle.presence.specs.Held.{prevalent-over, prevalent-where};
 
 // 1 for a zone day, else 0.
 fn zone_day(d: Day) -> u64
@@ -103,7 +104,8 @@ fn marked_day(m: u64) -> Day
 }
 
 // The zone days among the last w days, from their marks: those among one day less, and the day before them, which is
-// read first. The marks are an array, so that the compiler makes a loop of this; of a recursion over a slice it does not.
+// read first. The marks are an array, so that the compiler makes a loop of this; of a recursion over a slice it does
+// not.
 fn zone_days(marks: &[u64; 123], w: usize) -> u64
     requires { ⌜ w ≤ 123 ⌝ }
     ensures { λ r. ⌜ r ≡ sum-days zone-day w (map marked-day (now (marks .entry))) ⌝ }

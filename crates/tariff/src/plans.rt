@@ -10,7 +10,8 @@ ghost use mathlib.Core.Bool.{true, false};
 ghost use Prim.Native.Nat.{_-_, _*_, _/_, _<_};
 ghost use Rattle.tariff.specs.Caps.{number};
 ghost use Rattle.tariff.specs.Plan.{is-prepaid, prices-in-range, unused-empty, terms-in-range, plan-verdict};
-ghost use Rattle.tariff.specs.Plan.{form-of, plan-with, plan-of, open-bundle, credit-allowance, plan-allowance, CreditFits};
+ghost use Rattle.tariff.specs.Plan.{form-of, plan-with, plan-of, open-bundle, credit-allowance};
+ghost use Rattle.tariff.specs.Plan.{plan-allowance, CreditFits};
 ghost use Rattle.tariff.specs.Plan.{BundleFits};
 
 // Is the plan prepaid?
