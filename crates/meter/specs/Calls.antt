@@ -36,17 +36,19 @@ call-numbers xs c = cond (is-account xs) (account-numbers (applied (account-from
 unfoldable pub sound-numbers : List ℕ → Bool
 sound-numbers xs = is-account xs && sound (account-from xs)
 
--- kinds by number: 0 data, 1 outgoing, 2 incoming, 3 SMS; no other number is one
+-- does a number stand for a kind? 0 data, 1 outgoing, 2 incoming, 3 SMS
 abbrev pub is-kind : ℕ → Bool
 is-kind n = leb n 3
 
+-- the kind that it stands for
 unfoldable pub kind-from : ℕ → Kind
 kind-from n = cond (eqb n 0) Data (cond (eqb n 1) Outgoing (cond (eqb n 2) Incoming Sms))
 
--- places by number, as in the trip file: 0 home, 1 zone, 2 elsewhere; no other number is one
+-- does a number stand for a place? As in the trip file: 0 home, 1 zone, 2 elsewhere
 abbrev pub is-place : ℕ → Bool
 is-place n = leb n 2
 
+-- the place that it stands for
 unfoldable pub place-named : ℕ → Place
 place-named n = cond (eqb n 0) Home (cond (eqb n 1) Zone Elsewhere)
 
@@ -59,6 +61,7 @@ kind-with-room kind size ys = is-kind kind && leb size (length ys)
 unfoldable pub open-verdict : List ℕ → List ℕ → Verdict
 open-verdict xs ts = cond (eqb (length xs) 1649) (verdict-of (terms-reasons (terms-from ts))) (Judged.Refused 0)
 
+-- what Open returns: 1001 where the plan is not seven numbers
 unfoldable pub open-code : List ℕ → List ℕ → ℕ
 open-code xs ts = cond (eqb (length ts) 7) (verdict-code (open-verdict xs ts)) bad-argument
 

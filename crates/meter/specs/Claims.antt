@@ -16,6 +16,7 @@ pub record CallFollows (a : Account) (c : Call) : Type 0 where
   pub answer : call-answer (account-numbers a) c ≡ applied a c .answer
   pub numbers : call-numbers (account-numbers a) c ≡ account-numbers (applied a c .account)
 
+-- for every account and call
 abbrev pub CallsFollowTheAccount : Type 0
 CallsFollowTheAccount = (a : Account) (c : Call) → length (a .log) ≡ 1599 → CallFollows a c
 

@@ -13,6 +13,7 @@ pub record AccountBack (a : Account) : Type 0 where
   pub known : is-account (account-numbers a) ≡ true
   pub back : account-from (account-numbers a) ≡ a
 
+-- for every account
 abbrev pub AccountOfItsNumbers : Type 0
 AccountOfItsNumbers = (a : Account) → length (a .log) ≡ 1599 → AccountBack a
 
@@ -21,5 +22,6 @@ pub record NumbersBack (xs : List ℕ) : Type 0 where
   pub sized : length (account-from xs .log) ≡ 1599
   pub back : account-numbers (account-from xs) ≡ xs
 
+-- for all numbers
 abbrev pub NumbersOfTheirAccount : Type 0
 NumbersOfTheirAccount = (xs : List ℕ) → is-account xs ≡ true → NumbersBack xs

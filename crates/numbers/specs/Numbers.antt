@@ -112,11 +112,12 @@ terms-from ys = record {
   volume = getD ys 6 0;
 }
 
--- the groups, each from its place among the 50 numbers
+-- each group from its place among the 50 numbers: money
 abbrev pub money-from : List ℕ → Money
 money-from ys =
     record { credit = getD ys 9 0; paid = getD ys 10 0; homecharges = getD ys 11 0; surcharges = getD ys 12 0 }
 
+-- the meters
 abbrev pub meters-from : List ℕ → Meters
 meters-from ys = record {
   lifetime = units-from ys 13;
@@ -126,10 +127,12 @@ meters-from ys = record {
   basis = units-from ys 26;
 }
 
+-- H, R, L
 abbrev pub quota-from : List ℕ → Quota
 quota-from ys =
     record { monthly = getD ys 30 0; roamed = getD ys 31 0; allowance = allowance-from (getD ys 32 0) }
 
+-- the services
 abbrev pub services-from : List ℕ → Services
 services-from ys = record {
   internet = service-from (getD ys 47 0);
@@ -151,10 +154,11 @@ state-from ys = record {
   services = services-from ys;
 }
 
--- of 1,649 numbers the log's 1,599, and the others
+-- of 1,649 numbers the log's 1,599
 unfoldable pub log-part : List ℕ → List ℕ
 log-part xs = take 1599 xs
 
+-- and the others
 unfoldable pub rest-part : List ℕ → List ℕ
 rest-part xs = drop 1599 xs
 
