@@ -1,10 +1,10 @@
 -- Calls on the account that numbers stand for. Assumes nothing.
-use Prim.Native.Nat.{ℕ, _+_, _-_, _≤_}
+use Prim.Native.Nat.{ℕ, _+_, _≤_}
 use mathlib.Core.Path.{_≡_, refl, sym, _∙_, ap}
 use mathlib.Core.Bool.{Bool, true, false, not, cond, _&&_, false≢true}
-use mathlib.Core.List.{List, [], _∷_, _++_}
+use mathlib.Core.List.{List, _++_}
 use native.Mathlib.Omega.{arith}
-use lib.Dec.{leb, eqb}
+use lib.Dec.{leb}
 use lib.ListN.{length, take, drop, length-drop, length-append}
 use lib.Seq.{take-at, length-take-le}
 use borrow.Author.Tests.{leb-true, not-true, not-false}
@@ -30,7 +30,7 @@ use Rattle.account.proofs.Claimed.{refused-changes-nothing}
 use Rattle.account.proofs.Returns.{unsound, step-size}
 use Rattle.numbers.specs.Numbers.{state-numbers, log-part, rest-part, account-numbers, account-from, is-account, Writable}
 use Rattle.numbers.proofs.Laid.{parts-join}
-use Rattle.numbers.proofs.Back.{account-length, account-back, numbers-back}
+use Rattle.numbers.proofs.Back.{account-back, numbers-back}
 use Rattle.meter.specs.Answers.{laid}
 use Rattle.meter.specs.Claims.{CallsFollowTheAccount, RefusedChangesNoNumber}
 use Rattle.meter.specs.Calls.{call-answer, call-numbers, sound-numbers, kind-with-room, is-taken, answer-size, settled, Settles}

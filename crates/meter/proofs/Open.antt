@@ -1,10 +1,9 @@
 -- An account opened over any numbers. Assumes nothing.
-use Prim.Native.Nat.{ℕ, suc, _+_, _≤_, _<_}
+use Prim.Native.Nat.{ℕ, suc, _+_, _<_}
 use mathlib.Core.Path.{_≡_, refl, sym, _∙_, ap}
-use mathlib.Core.Bool.{Bool, true, false, cond, _&&_}
+use mathlib.Core.Bool.{true}
 use mathlib.Core.List.{List, [], _∷_, _++_}
 use native.Mathlib.Omega.{arith}
-use lib.Dec.{eqb}
 use lib.ListN.{length, getD, drop, set, replicate, length-replicate, replicate-append-replicate, length-append, length-drop}
 use lib.Seq.{take-at, drop-cons, append-snoc, set-at}
 use borrow.Author.Tests.{eq-eqb, ne-eqb}
@@ -17,14 +16,12 @@ use Rattle.tariff.specs.declared.Verdict.the-variants.{Accepted, Refused}
 use Rattle.tariff.specs.Tests.{verdict-of, is-accepted}
 use Rattle.tariff.specs.Plan.{plan-verdict, plan-with, plan-answer, plan-of, terms-reasons}
 use Rattle.tariff.proofs.PlanLaws.{known-form, form-known}
-use Rattle.state.specs.declared.State.{State}
 use Rattle.account.specs.declared.Account.{Account}
 use Rattle.account.specs.declared.StateOpened.{StateOpened}
-use Rattle.account.specs.Whole.{sound, opened}
+use Rattle.account.specs.Whole.{opened}
 use Rattle.account.specs.Answers.{open-answer, opened-parts}
 use Rattle.account.proofs.Kept.{sound-opened}
 use Rattle.numbers.specs.Numbers.{terms-from, state-numbers, log-part, account-numbers, Writable}
-use Rattle.meter.specs.Answers.{verdict-code}
 use Rattle.meter.specs.Calls.{open-verdict, open-code, open-numbers}
 use Rattle.meter.proofs.Held.{writable}
 

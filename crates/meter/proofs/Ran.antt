@@ -1,14 +1,12 @@
 -- The calls of a file on the account that numbers stand for, and what files answer. Assumes nothing.
 use Prim.Native.Nat.{ℕ, _≤_}
 use mathlib.Core.Path.{_≡_, refl, sym, _∙_, ap}
-use mathlib.Core.Bool.{Bool, true, false, cond, not, _&&_}
+use mathlib.Core.Bool.{true, false, not, _&&_}
 use mathlib.Core.List.{List, [], _∷_, _++_}
-use lib.ListN.{length, take, drop}
+use lib.ListN.{length, drop}
 use lib.Dec.{leb, eqb}
-use lib.Seq.{take-at}
 use borrow.Author.Tests.{leb-true, eqb-true, not-true, not-false}
 use Rattle.tariff.specs.declared.Plan.{Plan}
-use Rattle.tariff.specs.declared.PlanAnswer.{PlanAnswer}
 use Rattle.tariff.specs.declared.PlanAnswer.the-variants as Planned
 use Rattle.tariff.specs.declared.Verdict.the-variants.{Accepted, Refused}
 use Rattle.tariff.specs.Tests.{is-accepted}
@@ -21,7 +19,7 @@ use Rattle.account.specs.declared.Account.{Account}
 use Rattle.account.specs.declared.Call.{Call}
 use Rattle.account.specs.Whole.{sound}
 use Rattle.account.specs.Calls.{step}
-use Rattle.account.specs.Answers.{open-answer, account-of}
+use Rattle.account.specs.Answers.{open-answer}
 use Rattle.account.proofs.Kept.{sound-tells}
 use Rattle.account.proofs.Claimed.{open-tells-sound}
 use Rattle.account.proofs.Returns.{step-size}
@@ -50,7 +48,7 @@ use Rattle.report.specs.declared.Report.{Report}
 use Rattle.report.specs.declared.Report.the-variants as Reported
 use Rattle.report.specs.Statement.{figures-with, figures-of, trip-run, report-on, report-of}
 use Rattle.numbers.specs.Numbers.{terms-from, state-numbers, log-part, account-numbers, account-from, is-account, Writable}
-use Rattle.numbers.proofs.Back.{account-length, numbers-back}
+use Rattle.numbers.proofs.Back.{numbers-back}
 use Rattle.meter.specs.Answers.{laid}
 use Rattle.meter.specs.Calls.{sound-numbers}
 use Rattle.meter.specs.Files.{find-laid, step-laid, written-code, written-laid, plan-with-room, write-code, write-laid, write-buffer, run-code, run-numbers, run-laid}

@@ -24,7 +24,7 @@ use Rattle.report.specs.declared.Report.{Report}
 use Rattle.report.specs.declared.Report.the-variants as Reported
 use Rattle.numbers.specs.Numbers.{units-numbers, plan-numbers, allowance-number, terms-from}
 use Rattle.numbers.specs.Numbers.{account-numbers, account-from}
-use Rattle.meter.specs.Answers.{accepted, bad-argument, section-end, laid, verdict-code}
+use Rattle.meter.specs.Answers.{accepted, bad-argument, section-end, laid}
 use Rattle.meter.specs.Calls.{sound-numbers}
 
 -- 01, "Figures": the nine figures of a statement, in the order of its lines; L as in an account's numbers

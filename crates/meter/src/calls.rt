@@ -7,17 +7,15 @@ use super::sound_held;
 use account::Call;
 use state::Answer;
 use state::Charge;
-use state::State;
 use state::StateApplied;
 use tariff::Kind;
 use tariff::Place;
 ghost use mathlib.Core.Path.{_≡_};
-ghost use mathlib.Core.Bool.{true, cond, _&&_};
-ghost use Prim.Native.Nat.{_+_, _≤_, _<_};
+ghost use mathlib.Core.Bool.{true, cond};
+ghost use Prim.Native.Nat.{_≤_, _<_};
 ghost use lib.ListN.{length};
-ghost use lib.Dec.{leb};
 ghost use Rattle.meter.specs.Answers.{laid, answer-code, charge-numbers, answer-laid, bad-argument, accepted};
-ghost use Rattle.meter.specs.Calls.{call-answer, call-numbers, sound-numbers, is-kind, kind-from, is-place};
+ghost use Rattle.meter.specs.Calls.{call-answer, call-numbers, sound-numbers, kind-from, is-place};
 ghost use Rattle.meter.specs.Calls.{place-named, kind-with-room, answer-size, is-taken, settled, Settles};
 
 fn kind_of(n: u64) -> Kind

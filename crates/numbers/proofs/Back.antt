@@ -1,5 +1,5 @@
 -- The account's numbers, there and back. Assumes nothing.
-use Prim.Native.Nat.{ℕ, zero, suc, _+_, _*_, _-_, _/_, _%_, _≤_, _<_}
+use Prim.Native.Nat.{ℕ, zero, suc, _+_, _*_, _-_, _/_, _%_, _≤_}
 use mathlib.Core.Path.{_≡_, refl, sym, _∙_, ap}
 use mathlib.Core.Bool.{Bool, true, false, cond, _&&_}
 use mathlib.Core.List.{List, [], _∷_, _++_, append-nil}
@@ -25,7 +25,7 @@ use Rattle.presence.proofs.Numbers.{day-back}
 use Rattle.state.specs.declared.State.{State}
 use Rattle.account.specs.declared.Account.{Account}
 use Rattle.numbers.specs.Numbers.{place-number, place-from, allowance-number, allowance-from, service-number, service-from, front-numbers, meters-numbers, quota-numbers, end-numbers, state-numbers, state-from, log-part, rest-part, account-numbers, account-from, tags-known, is-account}
-use Rattle.numbers.specs.Claims.{AccountBack, AccountOfItsNumbers, NumbersBack, NumbersOfTheirAccount}
+use Rattle.numbers.specs.Claims.{AccountOfItsNumbers, NumbersOfTheirAccount}
 use Rattle.numbers.proofs.Laid.{laid-five, log-length, rest-length, parts-join}
 
 form-back : (f : Form) → form-of (form-word f) ≡ f

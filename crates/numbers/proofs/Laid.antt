@@ -1,9 +1,9 @@
 -- Numbers laid over others. Assumes nothing.
-use Prim.Native.Nat.{ℕ, zero, suc, _+_, _-_, _≤_, _<_}
+use Prim.Native.Nat.{ℕ, suc, _+_, _-_, _≤_, _<_}
 use mathlib.Core.Path.{_≡_, sym, _∙_, ap}
-use mathlib.Core.List.{List, [], _∷_, _++_, append-assoc, append-nil}
+use mathlib.Core.List.{List, _∷_, _++_, append-assoc}
 use native.Mathlib.Omega.{arith}
-use lib.ListN.{length, getD, take, drop, set, take-append-drop, length-drop, length-append, drop-of-length-le}
+use lib.ListN.{length, getD, take, drop, set, take-append-drop, length-drop, length-append}
 use lib.Seq.{drop-drop, take-at, drop-at, drop-cons, take-suc, append-snoc, set-at, length-take-le, take-all}
 use Rattle.numbers.specs.Numbers.{log-part, rest-part}
 

@@ -14,9 +14,9 @@ use tariff::Form;
 use tariff::Place;
 use tariff::Terms;
 ghost use mathlib.Core.Path.{_≡_};
-ghost use mathlib.Core.Bool.{true, cond};
+ghost use mathlib.Core.Bool.{true};
 ghost use mathlib.Core.List.{_++_};
-ghost use Prim.Native.Nat.{_+_, _*_, _%_, _/_, _≤_, _<_};
+ghost use Prim.Native.Nat.{_+_, _≤_, _<_};
 ghost use lib.ListN.{length, take, drop};
 ghost use Rattle.tariff.specs.Plan.{form-word};
 ghost use Rattle.state.specs.Sound.{allowance-fits, warning-fits};
@@ -25,7 +25,7 @@ ghost use Rattle.presence.specs.Log.{numbers-of};
 ghost use Rattle.numbers.specs.Numbers.{service-number, service-from, terms-from, money-from};
 ghost use Rattle.numbers.specs.Numbers.{front-numbers, meters-numbers, quota-numbers, end-numbers};
 ghost use Rattle.numbers.specs.Numbers.{meters-from, quota-from, services-from, state-numbers, state-from};
-ghost use Rattle.numbers.specs.Numbers.{log-part, rest-part, account-from, tags-known, is-account, Writable};
+ghost use Rattle.numbers.specs.Numbers.{log-part, account-from, tags-known, is-account, Writable};
 
 fn number_of_place(p: Place) -> u64
     ensures { λ r. ⌜ r ≡ place-number (Location.At p) ⌝ }

@@ -6,7 +6,7 @@ use mathlib.Core.Path.{_≡_, refl, sym, _∙_, ap}
 use mathlib.Core.Bool.{Bool, true, false, _&&_, _||_}
 use mathlib.Core.List.{List, map}
 use native.Mathlib.Omega.{arith}
-use native.Mathlib.Numerals.{add-one, sub-one}
+use native.Mathlib.Numerals.{sub-one}
 use lib.Dec.{eqb, leb, ltb}
 use lib.ListN.{getD, set, length, List·getD-map, length-set}
 use lib.Seq.{getD-set-same, getD-set-other}

@@ -1,6 +1,5 @@
 -- `meter::put_first` meets its contract. Assumes nothing.
 use Rattle.meter.proofs.Held.{first-laid}
-use Rattle.meter.specs.Answers.{laid}
 use borrow.Author.Needs.{needs}
 use Rattle.meter.proofs.put_first.Statement.{statement}
 use Rattle.meter.proofs.put_first.Tie as tie

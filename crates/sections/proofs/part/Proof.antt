@@ -4,7 +4,7 @@ use Prim.Native.Nat.{ℕ, _+_, _-_, _≤_}
 use native.Mathlib.Omega.{arith}
 use lib.ListN.{length, take, drop}
 use Rattle.sections.specs.declared.Extent.{Extent}
-use Rattle.sections.specs.Find.{part-of, part-start, part-length}
+use Rattle.sections.specs.Find.{part-start, part-length}
 use Rattle.sections.proofs.Table.{keeps}
 use Rattle.sections.proofs.Finding.{part-within, part-bytes}
 use borrow.Author.Needs.{needs}

@@ -1,6 +1,5 @@
 -- `meter::calls::meter_afford` meets its contract. Assumes nothing.
-use mathlib.Core.Path.{_∙_, ap, sym}
-use Prim.Native.Nat.{ℕ, _≤_}
+use mathlib.Core.Path.{_∙_, ap}
 use Rattle.tariff.specs.declared.Kind.{Kind}
 use Rattle.state.specs.declared.Answer.{Answer}
 use Rattle.account.specs.declared.Call.the-variants.{Afford}

@@ -1,7 +1,6 @@
 -- `meter::calls::meter_register` meets its contract. Assumes nothing.
 use mathlib.Core.Path.{refl, _∙_, ap}
 use Rattle.tariff.specs.declared.Place.{Place}
-use Rattle.account.specs.declared.Call.{Call}
 use Rattle.account.specs.declared.Call.the-variants.{Register}
 use Rattle.meter.specs.Answers.{answer-code}
 use Rattle.meter.specs.Calls.{call-answer, call-numbers}

@@ -1,7 +1,5 @@
 -- `meter::calls::meter_use` meets its contract. Assumes nothing.
 use mathlib.Core.Path.{_∙_, ap}
-use mathlib.Core.List.{List}
-use Prim.Native.Nat.{ℕ}
 use Rattle.tariff.specs.declared.Kind.{Kind}
 use Rattle.state.specs.declared.Answer.{Answer}
 use Rattle.account.specs.declared.Call.the-variants.{Use}

@@ -1,7 +1,4 @@
 -- `meter::calls::put_answer` meets its contract. Assumes nothing.
-use Prim.Native.Nat.{_≤_}
-use mathlib.Core.Path.{ap, sym, _∙_}
-use lib.ListN.{length}
 use borrow.Author.Needs.{needs}
 use Rattle.meter.proofs.calls.put_answer.Statement.{statement}
 use Rattle.meter.proofs.calls.put_answer.Tie as tie

@@ -1,10 +1,8 @@
 -- `meter::files::meter_run` meets its contract. Assumes nothing.
-use mathlib.Core.Path.{_≡_, refl, sym, _∙_, ap}
-use mathlib.Core.Bool.{true}
+use mathlib.Core.Path.{refl, sym, _∙_}
 use lib.ListN.{length}
 use borrow.Author.Tests.{lt-leb, le-leb, not-true, not-false}
 use Rattle.report.proofs.Running.{section-once}
-use Rattle.meter.specs.Calls.{sound-numbers}
 use Rattle.meter.proofs.Ran.{run-0, run-declined, run-done}
 use borrow.Author.Needs.{needs}
 use Rattle.meter.proofs.files.meter_run.Statement.{statement}

@@ -1,7 +1,6 @@
 -- `meter::files::meter_write` meets its contract. Assumes nothing.
-use mathlib.Core.Path.{_≡_, sym, _∙_, ap}
+use mathlib.Core.Path.{sym, _∙_, ap}
 use native.Mathlib.Omega.{arith}
-use Rattle.tariff.specs.declared.Terms.{Terms}
 use Rattle.tariff.specs.Plan.{plan-of}
 use Rattle.meter.proofs.Ran.{room-there, room-missing, plan-seven, room-one, write-granted, write-declined, write-bad}
 use borrow.Author.Needs.{needs}

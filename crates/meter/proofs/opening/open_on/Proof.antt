@@ -1,7 +1,5 @@
 -- `meter::opening::open_on` meets its contract. Assumes nothing.
 use mathlib.Core.Path.{_∙_}
-use native.Mathlib.Omega.{arith}
-use lib.ListN.{length}
 use Rattle.meter.proofs.Open.{blank-length, writable-new, opened-laid}
 use borrow.Author.Needs.{needs}
 use Rattle.meter.proofs.opening.open_on.Statement.{statement}
