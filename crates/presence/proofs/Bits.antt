@@ -3,13 +3,18 @@
 use Prim.Native.Nat.{ℕ, zero, suc, _+_, _^_, _≤_, _<_}
 use mathlib.Core.Path.{_≡_, refl}
 use mathlib.Core.Bool.{Bool, true, false}
+use mathlib.Core.List.{List}
 use native.Mathlib.Omega.{arith}
 use native.Mathlib.Numerals.{add-one}
 use lib.Bits.{bitOr, or-lt, or-add-and, and-le-l, and-le-r}
 use lib.Dec.{eqb}
 use lib.Pow.{pow-pos}
 use borrow.Author.Tests.{eqb-true, eqb-false}
-use Rattle.presence.specs.Held.{bits-of}
+use lib.ListN.{getD}
+use Rattle.tariff.specs.Units.{zero-units}
+use Rattle.presence.specs.declared.Day.{Day}
+use Rattle.presence.specs.Day.{empty-day}
+use Rattle.presence.specs.Held.{bits-of, bits-with, bits-over}
 
 pub bits-none : (f : ℕ → ℕ) (n : ℕ) → n ≡ 0 → bits-of f n ≡ 0
 unfolding bits-of
@@ -19,13 +24,17 @@ pub bits-next : (f : ℕ → ℕ) (n : ℕ) → bits-of f (n + 1) ≡ bitOr (bit
 unfolding bits-of
 bits-next f n = rw (add-one n) refl
 
+pub joined-none : (n : ℕ) (ds : List Day) → n ≡ 0 → bits-over n ds ≡ zero-units
+unfolding bits-over
+joined-none n ds e = rw e refl
+
+pub joined-next : (n : ℕ) (ds : List Day) → bits-over (n + 1) ds ≡ bits-with (bits-over n ds) (getD ds n empty-day)
+unfolding bits-over
+joined-next n ds = rw (add-one n) refl
+
 pub or-above : (a b : ℕ) → (a ≤ bitOr a b) × (b ≤ bitOr a b)
 or-above a b = let e = or-add-and a b in
     (omega (arith, e, and-le-r a b), omega (arith, e, and-le-l a b))
-
-pub or-both : (k a b : ℕ) → bitOr a b < k → (a < k) × (b < k)
-or-both k a b h = let o = or-above a b in
-    (omega (arith, o), omega (arith, o))
 
 pub bits-above : (f : ℕ → ℕ) (n i : ℕ) → i < n → f i ≤ bits-of f n
 unfolding bits-of

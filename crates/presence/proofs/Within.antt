@@ -4,11 +4,10 @@ use Prim.Native.Nat.{ℕ, zero, suc, _+_, _-_, _*_, _/_, _%_, _≤_, _<_}
 use mathlib.Core.Path.{_≡_, refl, sym, _∙_, ap}
 use mathlib.Core.Bool.{Bool, true, false, not, _&&_}
 use mathlib.Core.List.{List, [], _∷_}
-use native.Mathlib.Nat.{zero-add}
 use native.Mathlib.Omega.{arith}
 use lib.Bits.{bitOr, or-lt}
 use lib.Dec.{eqb, ltb}
-use borrow.Author.Tests.{eqb-true, leb-true, ltb-true, ltb-false}
+use borrow.Author.Tests.{eqb-true, eqb-false, ltb-true, ltb-false}
 use lib.ListN.{getD, drop, getD-replicate}
 use lib.Seq.{getD-drop}
 use Rattle.tariff.specs.declared.Units.{Units}
@@ -18,11 +17,11 @@ use Rattle.tariff.proofs.Tests.{and-left, and-right, and-true, not-true}
 use Rattle.tariff.proofs.Sums.{fits-tells}
 use Rattle.presence.specs.declared.Day.{Day}
 use Rattle.presence.specs.Day.{empty-day, day-units}
-use Rattle.presence.specs.Log.{marks-number, numbers-of, day-from, days-first, days-of, units-over, blank, all-blank}
+use Rattle.presence.specs.Log.{numbers-of, day-from, days-first, days-of, units-over, blank, all-blank}
 use Rattle.presence.specs.Log.{marks-proper, lifetime-most, log-within}
-use Rattle.presence.specs.Held.{Roomy, Bounded, UnitsFit, bits-of, place-from, marks-kept, units-bits, day-bits}
-use Rattle.presence.proofs.Numbers.{day-at-is, days-past, number-at, number-proper, marks-each, marks-all}
-use Rattle.presence.proofs.Logs.{over-at}
+use Rattle.presence.specs.Held.{Roomy, Bounded, UnitsFit, bits-of, place-from, marks-kept, units-bits}
+use Rattle.presence.specs.Held.{bits-with, bits-over}
+use Rattle.presence.proofs.Numbers.{days-past, number-at, marks-each, marks-all}
 use Rattle.presence.proofs.Bits.{or-above, bits-above, bits-below}
 
 -- days of zeros are blank, and blank days have no numbers but 0
@@ -80,55 +79,76 @@ blank-number : (d : Day) (r : ℕ) → r < 13 → blank d ≡ true → getD (num
 unfolding numbers-of
 blank-number d r l e = ap (λ (t : Day). getD (numbers-of t) r 0) (blank-is-empty d e) ∙ getD-replicate 13 r 0 0 l
 
--- the numbers of a day within the lifetime units are below 2^40
-low-number : (d : Day) (r : ℕ) → AtMost (day-units d) lifetime-most → getD (numbers-of d) r 0 < 1099511627776
-unfolding numbers-of
-low-number d zero h = omega (arith, leb-true (marks-number d) 7 (number-proper (d .home) (d .zone) (d .elsewhere)))
-low-number d (suc zero) h = omega arith
-low-number d (suc (suc zero)) h = omega arith
-low-number d (suc (suc (suc zero))) h = omega arith
-low-number d (suc (suc (suc (suc zero)))) h = omega arith
-low-number d (suc (suc (suc (suc (suc zero))))) h = omega arith
-low-number d (suc (suc (suc (suc (suc (suc zero)))))) h = omega arith
-low-number d (suc (suc (suc (suc (suc (suc (suc zero))))))) h = omega arith
-low-number d (suc (suc (suc (suc (suc (suc (suc (suc zero)))))))) h = omega arith
-low-number d (suc (suc (suc (suc (suc (suc (suc (suc (suc zero))))))))) h = omega arith
-low-number d (suc (suc (suc (suc (suc (suc (suc (suc (suc (suc zero)))))))))) h = omega arith
-low-number d (suc (suc (suc (suc (suc (suc (suc (suc (suc (suc (suc zero))))))))))) h = omega arith
-low-number d (suc (suc (suc (suc (suc (suc (suc (suc (suc (suc (suc (suc zero)))))))))))) h = omega arith
-low-number d (suc (suc (suc (suc (suc (suc (suc (suc (suc (suc (suc (suc (suc r))))))))))))) h = omega arith
+-- the joined bits of units of a kind are below 2^40 exactly if all the units are
+abbrev Narrow : Units → Type 0
+Narrow u = AtMost u (each 1099511627775 1099511627775 1099511627775 1099511627775)
 
--- so are their joined bits, and where these are the numbers are
-units-bits-low : (u : Units) → AtMost u lifetime-most → units-bits u < 1099511627776
-units-bits-low u h =
-    or-lt 40 (bitOr (bitOr (u .kb) (u .outgoing)) (u .incoming)) (u .sms)
-    (or-lt 40 (bitOr (u .kb) (u .outgoing)) (u .incoming) (or-lt 40 (u .kb) (u .outgoing) (omega arith) (omega arith)) (omega arith))
-    (omega arith)
+join-low : (a h z e : ℕ) → a < 1099511627776 → h < 1099511627776 → z < 1099511627776 → e < 1099511627776
+    → bitOr (bitOr (bitOr a h) z) e < 1099511627776
+join-low a h z e p q r s = or-lt 40 (bitOr (bitOr a h) z) e (or-lt 40 (bitOr a h) z (or-lt 40 a h p q) r) s
 
-day-bits-low : (d : Day) → AtMost (day-units d) lifetime-most → day-bits d < 1099511627776
-day-bits-low d h =
-    or-lt 40 (bitOr (units-bits (d .athome)) (units-bits (d .inzone))) (units-bits (d .outside))
-    (or-lt 40 (units-bits (d .athome)) (units-bits (d .inzone)) (units-bits-low (d .athome) (omega arith)) (units-bits-low (d .inzone) (omega arith)))
-    (units-bits-low (d .outside) (omega arith))
+join-tells : (a h z e : ℕ) → bitOr (bitOr (bitOr a h) z) e < 1099511627776
+    → (a < 1099511627776) × (h < 1099511627776) × (z < 1099511627776) × (e < 1099511627776)
+join-tells a h z e l =
+    let x = or-above (bitOr (bitOr a h) z) e in
+    let y = or-above (bitOr a h) z in
+    let w = or-above a h in
+    (omega (arith, x, y, w), omega (arith, x, y, w), omega (arith, x, y, w), omega (arith, x, y, w))
 
-units-below : (u : Units) → AtMost u (each (units-bits u) (units-bits u) (units-bits u) (units-bits u))
-units-below u =
-    let a = or-above (u .kb) (u .outgoing) in
-    let b = or-above (bitOr (u .kb) (u .outgoing)) (u .incoming) in
-    let c = or-above (bitOr (bitOr (u .kb) (u .outgoing)) (u .incoming)) (u .sms) in
-    omega (arith, a, b, c)
+-- of units of a day within the lifetime units, and of those of days whose sum is
+with-low : (u : Units) (d : Day) → Narrow u → AtMost (day-units d) lifetime-most → Narrow (bits-with u d)
+with-low u d n h =
+    let kb = join-low (d .athome .kb) (d .inzone .kb) (d .outside .kb) (u .kb) (omega arith) (omega arith) (omega arith) (omega arith) in
+    let out = join-low (d .athome .outgoing) (d .inzone .outgoing) (d .outside .outgoing) (u .outgoing) (omega arith) (omega arith) (omega arith) (omega arith) in
+    let inc = join-low (d .athome .incoming) (d .inzone .incoming) (d .outside .incoming) (u .incoming) (omega arith) (omega arith) (omega arith) (omega arith) in
+    let sms = join-low (d .athome .sms) (d .inzone .sms) (d .outside .sms) (u .sms) (omega arith) (omega arith) (omega arith) (omega arith) in
+    omega (arith, kb, out, inc, sms)
 
-pub bits-bounded : (d : Day) → day-bits d < 1099511627776 → Bounded (day-units d)
-bits-bounded d h =
-    let a = or-above (units-bits (d .athome)) (units-bits (d .inzone)) in
-    let b = or-above (bitOr (units-bits (d .athome)) (units-bits (d .inzone))) (units-bits (d .outside)) in
-    omega (arith, a, b, units-below (d .athome), units-below (d .inzone), units-below (d .outside))
+over-low : (n : ℕ) (ds : List Day) → AtMost (units-over n ds) lifetime-most → Narrow (bits-over n ds)
+unfolding bits-over units-over
+over-low zero ds h = omega arith
+over-low (suc n) ds h = with-low (bits-over n ds) (getD ds n empty-day) (over-low n ds (omega arith)) (omega arith)
+
+-- and back
+with-tells : (u : Units) (d : Day) → Narrow (bits-with u d) → Narrow u × Bounded (day-units d)
+with-tells u d h =
+    let kb = join-tells (d .athome .kb) (d .inzone .kb) (d .outside .kb) (u .kb) (omega arith) in
+    let out = join-tells (d .athome .outgoing) (d .inzone .outgoing) (d .outside .outgoing) (u .outgoing) (omega arith) in
+    let inc = join-tells (d .athome .incoming) (d .inzone .incoming) (d .outside .incoming) (u .incoming) (omega arith) in
+    let sms = join-tells (d .athome .sms) (d .inzone .sms) (d .outside .sms) (u .sms) (omega arith) in
+    (omega (arith, kb, out, inc, sms), omega (arith, kb, out, inc, sms))
+
+over-tells : (n i : ℕ) (ds : List Day) → Narrow (bits-over n ds) → i < n → Bounded (day-units (getD ds i empty-day))
+unfolding bits-over
+over-tells zero i ds h l = absurd (omega arith)
+over-tells (suc n) i ds h l = go (λ k. over-tells n i ds (t .0) k) (eqb i n) refl
+  where
+    t : Narrow (bits-over n ds) × Bounded (day-units (getD ds n empty-day))
+    t = with-tells (bits-over n ds) (getD ds n empty-day) h
+
+    go : (i < n → Bounded (day-units (getD ds i empty-day))) → (b : Bool) → eqb i n ≡ b → Bounded (day-units (getD ds i empty-day))
+    go f true e = rw (eqb-true i n e) (t .1)
+    go f false e = f (omega (arith, eqb-false i n e))
+
+-- the same of all kinds at once
+narrow-bits : (u : Units) → Narrow u → units-bits u < 1099511627776
+narrow-bits u h = join-low (u .kb) (u .outgoing) (u .incoming) (u .sms) (omega arith) (omega arith) (omega arith) (omega arith)
+
+bits-narrow : (u : Units) → units-bits u < 1099511627776 → Narrow u
+bits-narrow u h = omega (arith, join-tells (u .kb) (u .outgoing) (u .incoming) (u .sms) h)
+
+-- so the bits of the first n days and of one more day tell that all of these have small numbers
+pub days-bounded : (n : ℕ) (xs : List ℕ) (d : Day) → units-bits (bits-with (bits-over n (days-of xs)) d) < 1099511627776
+    → UnitsFit n xs × Bounded (day-units d)
+days-bounded n xs d h =
+    let t = with-tells (bits-over n (days-of xs)) d (bits-narrow (bits-with (bits-over n (days-of xs)) d) h) in
+    ((λ i l. over-tells n i (days-of xs) (t .0) l), t .1)
 
 falsely : (t : Bool) → (t ≡ true → ⊥) → t ≡ false
 falsely true h = absurd (h refl)
 falsely false h = refl
 
--- what a sound log shows: its tests, each number past the logged days, each of the marks, each number of a logged day
+-- what a sound log shows: its tests, each number past the logged days, each of the marks, bits below 2^40
 module _ (xs : List ℕ) (today : Day) (n : ℕ) (v : Units) (within : log-within xs today n v ≡ true) where
   abbrev sums : Bool
   sums = fits (day-units today ⊕ units-over n (days-of xs)) v
@@ -157,12 +177,12 @@ module _ (xs : List ℕ) (today : Day) (n : ℕ) (v : Units) (within : log-withi
       number-is j l
       ∙ blank-number _ (j % 13) (omega arith) (rw (← d) (blank-at (drop n (days-of xs)) (j / 13 - n) (tests .1)))
 
-  units-low : n ≤ 123 → AtMost v lifetime-most → UnitsFit n xs
-  units-low few most j l =
+  bits-low : AtMost v lifetime-most → units-bits (bits-with (bits-over n (days-of xs)) today) < 1099511627776
+  bits-low most =
       let u = fits-tells (day-units today ⊕ units-over n (days-of xs)) v (tests .0) in
-      let k : j / 13 < n = omega arith in
-      let o = over-at n (j / 13) (days-of xs) k in
-      rw (number-is j (omega arith)) (low-number (getD (days-of xs) (j / 13) empty-day) (j % 13) (omega (arith, u, o, most)))
+      narrow-bits
+      (bits-with (bits-over n (days-of xs)) today)
+      (with-low (bits-over n (days-of xs)) today (over-low n (days-of xs) (omega (arith, u, most))) (omega (arith, u, most)))
 
 module _ (xs : List ℕ) (today : Day) (n : ℕ) (v : Units) (few : n ≤ 123) where
   -- so a log that does not show one of them is not sound
@@ -181,16 +201,8 @@ module _ (xs : List ℕ) (today : Day) (n : ℕ) (v : Units) (few : n ≤ 123) w
       low : log-within xs today n v ≡ true → bits-of (marks-kept xs) n < 8
       low w = bits-below 3 (marks-kept xs) n (λ i k. omega (arith, marks-low xs today n v w i (omega arith)))
 
-  pub units-refused : AtMost v lifetime-most → 1099511627776 ≤ bitOr (bits-of (place-from 0 xs) (13 * n - 0)) (day-bits today) → log-within xs today n v ≡ false
-  units-refused most h = falsely (log-within xs today n v) (λ w. absurd (omega (arith, low w)))
-    where
-      bits-low : log-within xs today n v ≡ true → bits-of (place-from 0 xs) (13 * n - 0) < 1099511627776
-      bits-low w = bits-below 40 (place-from 0 xs) (13 * n - 0) (λ i k. rw (zero-add i) (units-low xs today n v w few most i (omega arith)))
-
-      low : log-within xs today n v ≡ true → bitOr (bits-of (place-from 0 xs) (13 * n - 0)) (day-bits today) < 1099511627776
-      low w =
-          let u = fits-tells (day-units today ⊕ units-over n (days-of xs)) v (tests xs today n v w .0) in
-          or-lt 40 (bits-of (place-from 0 xs) (13 * n - 0)) (day-bits today) (bits-low w) (day-bits-low today (omega (arith, u, most)))
+  pub units-refused : AtMost v lifetime-most → 1099511627776 ≤ units-bits (bits-with (bits-over n (days-of xs)) today) → log-within xs today n v ≡ false
+  units-refused most h = falsely (log-within xs today n v) (λ w. absurd (omega (arith, bits-low xs today n v w most)))
 
   -- and one that shows them is sound if the units are within the lifetime units
   pub within-is : bits-of (place-from (13 * n) xs) (1599 - 13 * n) ≡ 0 → bits-of (marks-kept xs) n ≤ 7
@@ -218,21 +230,11 @@ module _ (xs : List ℕ) (today : Day) (n : ℕ) (v : Units) (few : n ≤ 123) w
       proper = marks-all 123 xs (λ i l. mark-at i l (ltb i n) refl)
 
 -- numbers below 2^40 make sums with room for a day more
-pub units-fit : (n : ℕ) (xs : List ℕ) → bits-of (place-from 0 xs) (13 * n - 0) < 1099511627776 → UnitsFit n xs
-units-fit n xs h i l =
-    let b : getD xs (0 + i) 0 < 1099511627776 = omega (arith, bits-above (place-from 0 xs) (13 * n - 0) i (omega arith)) in
-    rw (zero-add i) at b
-
-pub day-bounded : (n i : ℕ) (xs : List ℕ) → n ≤ 123 → i < n → UnitsFit n xs → Bounded (day-units (getD (days-of xs) i empty-day))
-day-bounded n i xs few l h =
-    rw (day-at-is i xs (omega arith))
-    (omega (arith, h (13 * i + 1) (omega arith), h (13 * i + 1 + 1) (omega arith), h (13 * i + 1 + 2) (omega arith), h (13 * i + 1 + 3) (omega arith), h (13 * i + 5) (omega arith), h (13 * i + 5 + 1) (omega arith), h (13 * i + 5 + 2) (omega arith), h (13 * i + 5 + 3) (omega arith), h (13 * i + 9) (omega arith), h (13 * i + 9 + 1) (omega arith), h (13 * i + 9 + 2) (omega arith), h (13 * i + 9 + 3) (omega arith)))
-
 over-bounded : (i n : ℕ) (xs : List ℕ) → n ≤ 123 → i ≤ n → UnitsFit n xs
     → AtMost (units-over i (days-of xs)) (each (3298534883328 * i) (3298534883328 * i) (3298534883328 * i) (3298534883328 * i))
 unfolding units-over
 over-bounded zero n xs few l h = omega arith
-over-bounded (suc i) n xs few l h = omega (arith, over-bounded i n xs few (omega arith) h, day-bounded n i xs few l h)
+over-bounded (suc i) n xs few l h = omega (arith, over-bounded i n xs few (omega arith) h, h i l)
 
 pub over-room : (i n : ℕ) (xs : List ℕ) → n ≤ 123 → i ≤ n → UnitsFit n xs → Roomy (units-over i (days-of xs))
 over-room i n xs few l h = omega (arith, over-bounded i n xs few l h)

@@ -17,8 +17,8 @@ use Rattle.presence.specs.declared.ServiceState.{ServiceState}
 use Rattle.presence.specs.declared.ServiceState.the-variants.{Clear, Warned, Surcharged}
 use Rattle.presence.specs.declared.Service.{Service}
 use Rattle.presence.specs.declared.Service.the-variants.{DataService, CallService, SmsService}
-use Rattle.presence.specs.Day.{empty-day, zone-day, on-day}
-use Rattle.presence.specs.Log.{lifetime-most}
+use Rattle.presence.specs.Day.{empty-day, day-units, zone-day, on-day}
+use Rattle.presence.specs.Log.{lifetime-most, days-of}
 use Rattle.presence.specs.Window.{zone-units, other-units, sum-days, prevailing, prevalent}
 
 -- sums with room for one more day
@@ -29,9 +29,9 @@ Roomy u = AtMost u (each 1000000000000000 1000000000000000 1000000000000000 1000
 abbrev pub Bounded : Units → Type 0
 Bounded u = AtMost u (each 3298534883328 3298534883328 3298534883328 3298534883328)
 
--- the numbers of the first n days are below 2^40, which is above any lifetime units
+-- the units of each of the first n days are of numbers below 2^40, which is above any lifetime units
 abbrev pub UnitsFit : ℕ → List ℕ → Type 0
-UnitsFit n xs = (i : ℕ) → i < 13 * n → getD xs i 0 < 1099511627776
+UnitsFit n xs = (i : ℕ) → i < n → Bounded (day-units (getD (days-of xs) i empty-day))
 
 -- the bits of n numbers, joined: a bit is set where one of the numbers has it
 unfoldable pub bits-of : (ℕ → ℕ) → ℕ → ℕ
@@ -60,12 +60,22 @@ marked-day m = record {
   outside = zero-units;
 }
 
--- the bits of units of each kind, joined, and those of a day's units
+-- the bits of units of all kinds, joined
 abbrev pub units-bits : Units → ℕ
 units-bits u = bitOr (bitOr (bitOr (u .kb) (u .outgoing)) (u .incoming)) (u .sms)
 
-abbrev pub day-bits : Day → ℕ
-day-bits d = bitOr (bitOr (units-bits (d .athome)) (units-bits (d .inzone))) (units-bits (d .outside))
+-- the bits of units, joined kind by kind with those of a day
+abbrev pub bits-with : Units → Day → Units
+bits-with u d = each
+    (bitOr (bitOr (bitOr (d .athome .kb) (d .inzone .kb)) (d .outside .kb)) (u .kb))
+    (bitOr (bitOr (bitOr (d .athome .outgoing) (d .inzone .outgoing)) (d .outside .outgoing)) (u .outgoing))
+    (bitOr (bitOr (bitOr (d .athome .incoming) (d .inzone .incoming)) (d .outside .incoming)) (u .incoming))
+    (bitOr (bitOr (bitOr (d .athome .sms) (d .inzone .sms)) (d .outside .sms)) (u .sms))
+
+-- the same of the first n days
+unfoldable pub bits-over : ℕ → List Day → Units
+bits-over zero ds = zero-units
+bits-over (suc n) ds = bits-with (bits-over n ds) (getD ds n empty-day)
 
 -- units within the limit of lifetime units
 abbrev pub Low : Units → Type 0

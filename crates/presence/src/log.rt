@@ -10,7 +10,8 @@ ghost use Rattle.tariff.specs.Units.{_⊕_, each, AtMost};
 ghost use Rattle.presence.specs.Day.{empty-day, day-units};
 ghost use Rattle.presence.specs.Log.{marks-number, numbers-of, day-from, days-of, logged-with, units-over};
 ghost use Rattle.presence.specs.Log.{lifetime-most, log-within};
-ghost use Rattle.presence.specs.Held.{Roomy, Bounded, UnitsFit, bits-of, place-from, marks-kept, day-bits};
+ghost use Rattle.presence.specs.Held.{Roomy, Bounded, UnitsFit, bits-of, place-from, marks-kept, bits-with};
+ghost use Rattle.presence.specs.Held.{bits-over, units-bits};
 
 // A log without days. The log is kept as 123 days of 13 numbers, newest day first: the marks as one number, then the
 // units of each kind at home, in the zone and elsewhere.
@@ -182,17 +183,45 @@ fn marks_bits(log: &[u64], n: usize) -> u64
     bits
 }
 
-// The same of a day's units.
-fn day_bits(d: Day) -> u64
-    ensures { λ r. ⌜ r ≡ day-bits d ⌝ }
+// The bits of units of all kinds, joined.
+fn units_bits(u: Units) -> u64
+    ensures { λ r. ⌜ r ≡ units-bits u ⌝ }
+{
+    u.kb | u.outgoing | u.incoming | u.sms
+}
+
+// The bits of units, joined kind by kind with those of a day.
+fn join_day(bits: Units, d: Day) -> Units
+    ensures { λ r. ⌜ r ≡ bits-with bits d ⌝ }
 {
     let h = d.athome;
     let z = d.inzone;
     let e = d.outside;
-    let home = h.kb | h.outgoing | h.incoming | h.sms;
-    let zone = z.kb | z.outgoing | z.incoming | z.sms;
-    let elsewhere = e.kb | e.outgoing | e.incoming | e.sms;
-    home | zone | elsewhere
+    Units {
+        kb: h.kb | z.kb | e.kb | bits.kb,
+        outgoing: h.outgoing | z.outgoing | e.outgoing | bits.outgoing,
+        incoming: h.incoming | z.incoming | e.incoming | bits.incoming,
+        sms: h.sms | z.sms | e.sms | bits.sms,
+    }
+}
+
+// The same of the first n days. In the form of their sum, so that it is compiled alike, two numbers at a time.
+fn join_days(log: &[u64], n: usize) -> Units
+    requires { ⌜ (n ≤ 123) × (length (now log) ≡ 1599) ⌝ }
+    ensures { λ r. ⌜ r ≡ bits-over n (days-of (now (log .entry))) ⌝ }
+{
+    let mut bits = Units {
+        kb: 0,
+        outgoing: 0,
+        incoming: 0,
+        sms: 0,
+    };
+    let mut i: usize = 0;
+    while i < n {
+        bits = join_day(bits, day_at(log, i));
+        i += 1;
+    }
+    bits
 }
 
 // Are the units of today and of the n logged days within the lifetime units, the other places blank, and all marks
@@ -211,7 +240,7 @@ pub fn log_fits(log: &[u64], today: Day, n: u64, lifetime: Units) -> bool
     if marks > 7 {
         return false;
     }
-    let units = bits_between(log, 0, end) | day_bits(today);
+    let units = units_bits(join_day(join_days(log, k), today));
     if units >= 1099511627776 {
         return false;
     }

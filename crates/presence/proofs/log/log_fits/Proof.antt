@@ -1,14 +1,12 @@
 -- `presence::log::log_fits` meets its contract. Assumes nothing.
-use Prim.Native.Nat.{_*_, _-_, _≤_, _<_}
+use Prim.Native.Nat.{_*_, _-_, _≤_}
 use mathlib.Core.Path.{_≡_, refl, sym, _∙_, ap}
 use Rattle.tariff.specs.declared.Units.{Units}
 use Rattle.tariff.specs.Units.{_⊕_, fits}
 use Rattle.presence.specs.Day.{day-units}
 use Rattle.presence.specs.Log.{days-of, units-over}
-use Rattle.presence.specs.Held.{UnitsFit, Bounded, bits-of, place-from, marks-kept, day-bits}
-use Rattle.presence.proofs.Bits.{or-both}
-use Rattle.presence.proofs.Within.{rest-refused, marks-refused, units-refused, within-is, units-fit, bits-bounded, over-room}
-use lib.Bits.{bitOr}
+use Rattle.presence.specs.Held.{UnitsFit, Bounded, bits-of, place-from, marks-kept, units-bits, bits-with, bits-over}
+use Rattle.presence.proofs.Within.{rest-refused, marks-refused, units-refused, within-is, days-bounded, over-room}
 use native.Mathlib.Nat.{le-refl}
 use native.Mathlib.Omega.{arith}
 use Rattle.presence.proofs.log.log_fits.Statement.{statement}
@@ -25,36 +23,33 @@ returns-2 c = let d = c .before .before .before .before .before in
     sym (marks-refused (a .log .now) (a .today) (a .n) (a .lifetime) (d .pre .0) (omega (arith, c .before .marks-bits .ensures, c .if2 .taken)))
 
 -- the bits that the third test looks at
-units-bits : (c : tie.After-day-bits) → let a = c .before .before .before .before .before .before .before .args in
-    bitOr (c .before .bits-between2 .result) (c .day-bits .result) ≡ bitOr (bits-of (place-from 0 (a .log .now)) (13 * a .n - 0)) (day-bits (a .today))
-units-bits c = rw (c .before .bits-between2 .ensures, c .day-bits .ensures) refl
+bits-are : (c : tie.After-units-bits) → let a = c .before .before .before .before .before .before .before .before .args in
+    c .units-bits .result ≡ units-bits (bits-with (bits-over (a .n) (days-of (a .log .now))) (a .today))
+bits-are c = c .units-bits .ensures ∙ rw (c .before .join-day .ensures, c .before .before .join-days .ensures) refl
 
 returns-3 : tie.Need-returns-3
-returns-3 c = let d = c .before .before .before .before .before .before .before .before in
+returns-3 c = let d = c .before .before .before .before .before .before .before .before .before in
     let a = d .args in
-    sym (units-refused (a .log .now) (a .today) (a .n) (a .lifetime) (d .pre .0) (d .pre .1) (omega (arith, units-bits (c .before), c .if3 .taken)))
+    sym (units-refused (a .log .now) (a .today) (a .n) (a .lifetime) (d .pre .0) (d .pre .1) (omega (arith, bits-are (c .before), c .if3 .taken)))
 
 -- past the three tests all numbers of the log's days and of today are below 2^40
-units-low : (c : tie.Else3) → let a = c .before .before .before .before .before .before .before .before .args in
+units-low : (c : tie.Else3) → let a = c .before .before .before .before .before .before .before .before .before .args in
     UnitsFit (a .n) (a .log .now) × Bounded (day-units (a .today))
-units-low c = let a = c .before .before .before .before .before .before .before .before .args in
-    let b = bits-of (place-from 0 (a .log .now)) (13 * a .n - 0) in
-    let h : bitOr b (day-bits (a .today)) < 1099511627776 = omega (arith, units-bits (c .before), c .if3 .left) in
-    let l = or-both 1099511627776 b (day-bits (a .today)) h in
-    (units-fit (a .n) (a .log .now) (l .0), bits-bounded (a .today) (l .1))
+units-low c = let a = c .before .before .before .before .before .before .before .before .before .args in
+    days-bounded (a .n) (a .log .now) (a .today) (omega (arith, bits-are (c .before), c .if3 .left))
 
 tally-requires : tie.Need-tally-requires
-tally-requires c κs = let d = c .before .before .before .before .before .before .before .before in
+tally-requires c κs = let d = c .before .before .before .before .before .before .before .before .before in
     (d .pre .0, units-low c .0, d .pre .2)
 
 add-day-requires : tie.Need-add-day-requires
-add-day-requires c κs = let d = c .before .before .before .before .before .before .before .before .before in
+add-day-requires c κs = let d = c .before .before .before .before .before .before .before .before .before .before in
     let a = d .args in
     let u = units-low (c .before) in
     (rw (c .tally .ensures) (over-room (a .n) (a .n) (a .log .now) (d .pre .0) (le-refl (a .n)) (u .0)), u .1)
 
 returns-4 : tie.Need-returns-4
-returns-4 c = let m = c .before .before .before .before .before .before in
+returns-4 c = let m = c .before .before .before .before .before .before .before in
     let d = m .before .before .before .before .before in
     let a = d .args in
     let xs = a .log .now in
@@ -75,7 +70,8 @@ log-fits-spec =
     returns
     (λ c κs. (c .before .before .before .pre .0, c .before .before .before .pre .2))
     returns-2
-    (λ c κs. omega arith)
+    (λ c κs. (c .before .before .before .before .before .pre .0, c .before .before .before .before .before .pre .2))
+    (λ c κs. tt)
     (λ c κs. tt)
     returns-3
     tally-requires

@@ -5,7 +5,7 @@ use native.Mathlib.Omega.{arith}
 use Rattle.presence.specs.Log.{days-of, units-over}
 use Rattle.presence.specs.Held.{UnitsFit}
 use Rattle.presence.proofs.Logs.{over-none, over-next}
-use Rattle.presence.proofs.Within.{day-bounded, over-room}
+use Rattle.presence.proofs.Within.{over-room}
 use Rattle.presence.proofs.log.tally.Statement.{statement}
 use Rattle.presence.proofs.log.tally.Tie as tie
 
@@ -22,7 +22,7 @@ add-day-requires : tie.Need-add-day-requires Inv-loop μ-loop
 add-day-requires c κs = let b = c .before .before in
     let a = b .before .before .args in
     let f = b .loop .inv in
-    (rw (f .3) (over-room (b .loop .i) (a .n) (a .log .now) (f .1) (f .0) (f .2)), rw (c .day-at .ensures) (day-bounded (a .n) (b .loop .i) (a .log .now) (f .1) (omega arith) (f .2)))
+    (rw (f .3) (over-room (b .loop .i) (a .n) (a .log .now) (f .1) (f .0) (f .2)), rw (c .day-at .ensures) (f .2 (b .loop .i) (omega arith)))
 
 loop-again : tie.Need-loop-again Inv-loop μ-loop
 loop-again c = let b = c .before .before .before in
