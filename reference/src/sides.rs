@@ -192,7 +192,13 @@ fn on_account(account: Option<&mut Account>, step: Step, answer: &mut [u64]) -> 
     let Some(account) = account else {
         return 0;
     };
-    match account.apply(call) {
+    put_answer(account.apply(call), room)
+}
+
+/// The number of what a call answers; what it answers is put into the first
+/// numbers of a list with room for it.
+pub fn put_answer(told: Result<Answer, u32>, room: &mut [u64]) -> u64 {
+    match told {
         Ok(Answer::Done) => {}
         Ok(Answer::Used {
             home,
@@ -200,7 +206,7 @@ fn on_account(account: Option<&mut Account>, step: Step, answer: &mut [u64]) -> 
             surcharged,
             charged,
             notice,
-        }) => room.copy_from_slice(&[home, extra, surcharged, charged, u64::from(notice)]),
+        }) => room[..5].copy_from_slice(&[home, extra, surcharged, charged, u64::from(notice)]),
         Ok(Answer::Most(n)) => room[0] = n,
         Err(number) => return u64::from(number),
     }

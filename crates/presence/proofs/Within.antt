@@ -79,7 +79,7 @@ blank-number : (d : Day) (r : ℕ) → r < 13 → blank d ≡ true → getD (num
 unfolding numbers-of
 blank-number d r l e = ap (λ (t : Day). getD (numbers-of t) r 0) (blank-is-empty d e) ∙ getD-replicate 13 r 0 0 l
 
--- the joined bits of units of a kind are below 2^40 exactly if all the units are
+-- units below 2^40 in each kind; joined bits are, exactly if all that is joined is
 abbrev Narrow : Units → Type 0
 Narrow u = AtMost u (each 1099511627775 1099511627775 1099511627775 1099511627775)
 

@@ -29,7 +29,7 @@ Roomy u = AtMost u (each 1000000000000000 1000000000000000 1000000000000000 1000
 abbrev pub Bounded : Units → Type 0
 Bounded u = AtMost u (each 3298534883328 3298534883328 3298534883328 3298534883328)
 
--- the units of each of the first n days are of numbers below 2^40, which is above any lifetime units
+-- the units of each of the first n days are bounded so; 2^40 is above any lifetime units
 abbrev pub UnitsFit : ℕ → List ℕ → Type 0
 UnitsFit n xs = (i : ℕ) → i < n → Bounded (day-units (getD (days-of xs) i empty-day))
 

@@ -29,7 +29,7 @@ entry-to f k (suc i) = cond (eqb (kind-at f i) k) i (entry-to f k i)
 unfoldable pub just-once : List ℕ → ℕ → Bool
 just-once f k = eqb (times-to f k (section-count f)) 1
 
--- "start, length, the last two in bytes, start from the file's first": the bytes that entry i names
+-- 01, Trip file, "start, length": the bytes that entry i names, its start counted from the file's first byte
 abbrev pub body-at : List ℕ → ℕ → List ℕ
 body-at f i = take (length-at f i) (drop (start-at f i) f)
 
@@ -37,7 +37,7 @@ body-at f i = take (length-at f i) (drop (start-at f i) f)
 unfoldable pub part-of : List ℕ → ℕ → List ℕ
 part-of f k = body-at f (entry-to f k (section-count f))
 
--- "Finding a section: 10, 11, 12, then 13 if that kind isn't there just once"
+-- 01, "Finding a section": as a whole file is declined, and last with 13 for a kind that has no entry or several
 unfoldable pub find-reasons : List ℕ → ℕ → List Reason
 find-reasons f k = file-reasons f ++ (because 13 (not (just-once f k)) ∷ [])
 
@@ -50,7 +50,7 @@ abbrev pub or-nothing : Verdict → List ℕ → List ℕ
 or-nothing Accepted part = part
 or-nothing (Refused n) part = []
 
--- "that part of the caller's file itself, or an empty part where it is declined"
+-- 01, Trip file: the bytes that finding hands back, the section's, or none on a refusal
 unfoldable pub section-of : List ℕ → ℕ → List ℕ
 section-of f k = or-nothing (find-verdict f k) (part-of f k)
 
@@ -71,6 +71,6 @@ abbrev pub or-first : Verdict → ℕ → ℕ
 or-first Accepted n = n
 or-first (Refused r) n = 0
 
--- "that part of the caller's file itself": how many bytes from the file's first the part handed back begins
+-- 01, Trip file: they are a part of the lent file, and this is how many of its bytes stand before them
 unfoldable pub section-start : List ℕ → ℕ → ℕ
 section-start f k = or-first (find-verdict f k) (part-start f k)

@@ -181,7 +181,7 @@ pub fn find_verdict(file: &[u8], kind: u32) -> Verdict
     }
 }
 
-// The section of a kind: that part of the file itself, or an empty part where it is declined.
+// The section of a kind, as a part of the lent file; an empty part on a refusal.
 pub fn find(file: &[u8], kind: u32) -> &[u8]
     ensures bytes { λ r. ⌜ now r ≡ section-of (now (file .entry)) kind ⌝ }
     ensures place { λ r. ⌜ (r .ptr .0 ≡ file .entry .ptr .0)

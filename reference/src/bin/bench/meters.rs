@@ -6,7 +6,7 @@ use reference::caps;
 use reference::meter::{Account, Answer};
 use reference::numbers::{numbers, Numbers, ACCOUNT_NUMBERS};
 use reference::plan::Plan;
-use reference::sides::{Side, ACCEPTED, PLAN_NUMBERS, STATEMENT_NUMBERS};
+use reference::sides::{put_answer, Side, ACCEPTED, PLAN_NUMBERS, STATEMENT_NUMBERS};
 use reference::statement::{figures_of, run_calls};
 use reference::terms::Call;
 use reference::tripfile;
@@ -133,7 +133,7 @@ impl Meter for Reference {
                 Ok(Answer::Done)
             }
         };
-        number_of(told, answer)
+        put_answer(told, answer)
     }
 
     fn statement(&self, file: &[u8], answer: &mut Room) -> u64 {
@@ -165,23 +165,4 @@ fn put_caps(day: u64, answer: &mut Room) {
     let found = caps::search(day);
     answer[..4].copy_from_slice(&found.caps);
     answer[4] = found.read;
-}
-
-/// The number of what a call answers, which is put where answers are.
-fn number_of(told: Result<Answer, u32>, answer: &mut Room) -> u64 {
-    match told {
-        Ok(Answer::Done) => {}
-        Ok(Answer::Most(n)) => answer[0] = n,
-        Ok(Answer::Used {
-            home,
-            extra,
-            surcharged,
-            charged,
-            notice,
-        }) => {
-            answer[..5].copy_from_slice(&[home, extra, surcharged, charged, u64::from(notice)]);
-        }
-        Err(number) => return u64::from(number),
-    }
-    ACCEPTED
 }
