@@ -1,14 +1,15 @@
-//! The book of "Lists of calls and the book". It is fed what Open got, the
-//! calls' arguments and whether each was accepted, and works everything out
-//! again by looking through its items. It shares the tables of caps and months
-//! with the account, and none of the account's rules.
+//! The book. It knows the plan, the calls and which of them were accepted, and
+//! works everything out again by looking through its items. It shares the
+//! tables of caps and months with the account, and no code of its rules. Rules
+//! book-1 to book-12, and from the items use-, half-, service- and off-.
 
 use crate::calendar::{month_of, FIRST_DAYS};
 use crate::caps::caps_on;
 use crate::plan::{Plan, BUNDLE, PREPAID, UNLIMITED};
 use crate::terms::{Call, Kind, Place, Service, GB};
 
-/// An accepted call with its day and place (for a registration the new one).
+/// book-3: an accepted call, its day and its place (where it registers, the new
+/// one).
 #[derive(Clone, Copy, Debug)]
 pub struct Item {
     pub call: Call,
@@ -16,8 +17,8 @@ pub struct Item {
     pub place: Option<Place>,
 }
 
-/// What a use bears: the units that it is charged as, those that bear the home
-/// price and the surcharge, and the cap of its day.
+/// book-11: the units that a use is charged as (half-1), those that bear the
+/// home price and the surcharge, and the cap of its day (use-6).
 #[derive(Clone, Copy, PartialEq, Eq, Debug)]
 pub struct Share {
     pub kind: Kind,
@@ -27,7 +28,7 @@ pub struct Share {
     pub cap: u64,
 }
 
-/// A service in the book; a warning carries the number of days logged then.
+/// book-10: a service's state; a warning has the number of days logged then.
 #[derive(Clone, Copy, PartialEq, Eq, Debug)]
 pub enum Stage {
     Clear,
@@ -35,8 +36,8 @@ pub enum Stage {
     Surcharged,
 }
 
-/// A finished day: 1 for a zone day, -1 for a home day, 0 for an off day; and
-/// zone and other units by service.
+/// day-2: 1 for a zone day, -1 for a home day, 0 for an off day; and zone and
+/// other units by service (service-2, service-3).
 #[derive(Clone, Copy, Debug)]
 struct Finished {
     zone_less_home: i32,
@@ -57,7 +58,7 @@ pub struct Book {
 }
 
 impl Book {
-    /// No items, the start day, place none.
+    /// book-2: no items, the start day, no place.
     pub fn new(plan: Plan) -> Book {
         Book {
             plan,
@@ -70,7 +71,7 @@ impl Book {
         }
     }
 
-    /// An accepted call adds an item, a refused one nothing.
+    /// book-3 to book-5: accepted calls become items, refused ones do not.
     pub fn feed(&mut self, call: Call, accepted: bool) {
         if !accepted {
             return;
@@ -91,7 +92,7 @@ impl Book {
         }
     }
 
-    /// Paid in is the sum of the top-ups.
+    /// book-6: all top-ups together.
     pub fn paid_in(&self) -> u64 {
         paid(&self.items)
     }
@@ -104,7 +105,7 @@ impl Book {
         self.charges_over(&self.shares).1
     }
 
-    /// Paid in less both charges.
+    /// book-12: paid in without both charges.
     pub fn credit(&self) -> u64 {
         self.credit_after(self.items.len())
     }
@@ -122,7 +123,7 @@ impl Book {
         self.items.iter().map(|item| units(item, kind)).sum()
     }
 
-    /// Outgoing seconds as charged, over all items (02, 3/13).
+    /// half-3: outgoing seconds as charged, over all items.
     pub fn charged_seconds(&self) -> u64 {
         let uses = self.shares.iter().flatten();
         uses.filter(|share| share.kind == Kind::Outgoing)
@@ -130,8 +131,8 @@ impl Book {
             .sum()
     }
 
-    /// Priced units, surcharged units and cap x surcharged units over all
-    /// items, of a kind.
+    /// book-11: priced units, surcharged units and cap x surcharged units over
+    /// all items, of a kind.
     pub fn borne(&self, kind: Kind) -> [u64; 3] {
         let uses = self.shares.iter().flatten();
         let add = |sums: [u64; 3], share: &Share| {
@@ -148,14 +149,14 @@ impl Book {
         self.stages
     }
 
-    /// The credit over the first `count` items.
+    /// book-9: the credit over the first `count` items.
     fn credit_after(&self, count: usize) -> u64 {
         let (home, extra) = self.charges_over(&self.shares[..count]);
         paid(&self.items[..count]) - home - extra
     }
 
-    /// Home charges and surcharges: priced units, and cap x surcharged units,
-    /// are added up over the records; each kind is divided once, down.
+    /// use-11, use-12: both charges from sums over the records, each divided
+    /// once, down (limit-3); of calls by charged seconds (half-9).
     fn charges_over(&self, shares: &[Option<Share>]) -> (u64, u64) {
         let (mut priced, mut points) = ([0u128; 4], [0u128; 4]);
         for share in shares.iter().flatten() {
@@ -170,7 +171,7 @@ impl Book {
         (home as u64, extra as u64)
     }
 
-    /// H for a use now: a bundle's home and zone kB in items of the month.
+    /// book-7: H for a use now, the month's kB but those elsewhere.
     pub fn h(&self) -> u64 {
         if self.plan.form == PREPAID {
             return 0;
@@ -179,8 +180,8 @@ impl Book {
         kb(self.month_items().iter().filter(here))
     }
 
-    /// R for a use now: a bundle's zone kB of the month, a prepaid plan's
-    /// since its last entry into the zone or top-up there.
+    /// book-8: R for a use now, zone kB of the month or, prepaid, since L was
+    /// last set.
     pub fn r(&self) -> u64 {
         let zone = |item: &&Item| item.place == Some(Place::Zone);
         if self.plan.form == PREPAID {
@@ -191,8 +192,8 @@ impl Book {
         }
     }
 
-    /// L as last set: a bundle's at opening or on the month's first day, a
-    /// prepaid plan's at the last entry into the zone or top-up there.
+    /// book-9: L as last set, of a bundle by limit-5 to limit-7, prepaid by
+    /// register-2, topup-2 or limit-4.
     pub fn l(&self) -> Option<u64> {
         let plan = &self.plan;
         if plan.form == PREPAID {
@@ -217,7 +218,7 @@ impl Book {
         &self.items[first..]
     }
 
-    /// The last entry into the zone or top-up there.
+    /// book-8: the item that last set a prepaid L (register-2, topup-2).
     fn last_setting(&self) -> Option<usize> {
         (0..self.items.len()).rev().find(|&index| {
             let item = &self.items[index];
@@ -230,9 +231,8 @@ impl Book {
         })
     }
 
-    /// What a use of n units would bear now, after all items. In the zone an
-    /// outgoing call shorter than half a minute bears as much as one of half a
-    /// minute (02, 3/13).
+    /// book-11: what a use of n units would bear now, after all items. half-1:
+    /// of an outgoing zone record that is 30 seconds at least.
     pub fn share(&self, kind: Kind, n: u64) -> Share {
         let short = n < 30 && kind == Kind::Outgoing && self.place == Some(Place::Zone);
         let charged = if short { 30 } else { n };
@@ -245,7 +245,7 @@ impl Book {
         }
     }
 
-    /// The units of a use that bear the home price.
+    /// use-2 to use-5: the units of a use that bear the home price.
     fn priced(&self, kind: Kind, n: u64) -> u64 {
         if self.place == Some(Place::Elsewhere) || kind == Kind::Incoming {
             return 0;
@@ -259,7 +259,7 @@ impl Book {
         n - free_part(u64::from(self.plan.volume), self.h(), n)
     }
 
-    /// The units of a use that bear the surcharge.
+    /// use-7 to use-10: the units of a use that bear the surcharge.
     fn surcharged(&self, kind: Kind, n: u64) -> u64 {
         if self.place != Some(Place::Zone) {
             return 0;
@@ -273,7 +273,7 @@ impl Book {
         }
     }
 
-    /// The number that a call would be refused with now, or 0 if accepted.
+    /// order-3: the number that a call would be refused with now, or 0.
     pub fn verdict(&self, call: Call) -> u32 {
         match call {
             Call::Register(_) => 0,
@@ -289,6 +289,7 @@ impl Book {
         }
     }
 
+    /// refusal-5, with charged seconds too (half-5), and refusal-6.
     fn use_verdict(&self, kind: Kind, n: u64) -> u32 {
         if self.lifetime(kind) + n > 1_000_000_000_000 {
             return 5;
@@ -307,8 +308,8 @@ impl Book {
         }
     }
 
-    /// A day change: the finished day from the items of its date, then one
-    /// step of each service.
+    /// book-10: a day change, with the finished day from the items of its date,
+    /// then one step of each service (service-10).
     fn finish_day(&mut self) {
         let first = self.items.partition_point(|item| item.day < self.day);
         self.days.push(finished(&self.items[first..]));
@@ -317,6 +318,7 @@ impl Book {
         }
     }
 
+    /// service-7 to service-9: a service's state after the day.
     fn next_stage(&self, service: usize) -> Stage {
         let logged = self.days.len();
         match self.stages[service] {
@@ -330,10 +332,8 @@ impl Book {
         }
     }
 
-    /// More zone days than home days among the newest w, off days being
-    /// neither, and more zone units than others. Twice the zone days exceed
-    /// zone and home days together exactly if there are more of them than of
-    /// home days.
+    /// service-4: more zone units than others, and off-1: more zone days than
+    /// home days among the newest w, which is more than half of the days on.
     fn prevalent(&self, w: usize, service: usize) -> bool {
         let window = &self.days[self.days.len().saturating_sub(w)..];
         let zone_less_home: i32 = window.iter().map(|day| day.zone_less_home).sum();
@@ -343,7 +343,7 @@ impl Book {
     }
 }
 
-/// A day's marks are the places of its registrations and uses.
+/// book-10: the marks and units of a day, from its items.
 fn finished(items: &[Item]) -> Finished {
     let marking = |item: &&Item| matches!(item.call, Call::Register(_) | Call::Use(_, _));
     let mut marks = items.iter().filter(marking).map(|item| item.place);

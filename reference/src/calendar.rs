@@ -1,17 +1,19 @@
-//! The first days of the 132 months from January 2022 to December 2032, by
-//! the Gregorian rule. Day 0 is 1 January 2022.
+//! Months: the day on which each begins, by the Gregorian rule. Rules month-1
+//! to month-3.
 
+/// month-2: the months of 2022 to 2032.
 pub const MONTHS: usize = 132;
 
-/// First day of each month, month 0 being January 2022.
+/// month-2: first day of each month, month 0 being January 2022. month-1: it
+/// begins on day 0.
 pub const FIRST_DAYS: [u32; MONTHS] = first_days();
 
-/// Leap years: each fourth one, but of the hundreds only each fourth.
+/// month-3: leap years are each fourth one, of the hundreds only each fourth.
 pub const fn is_leap(year: u32) -> bool {
     year.is_multiple_of(4) && (!year.is_multiple_of(100) || year.is_multiple_of(400))
 }
 
-/// Days of a month, January being 1.
+/// month-3: days of a month, January being 1.
 pub const fn month_length(year: u32, month: u32) -> u32 {
     match month {
         2 if is_leap(year) => 29,
@@ -32,12 +34,12 @@ const fn first_days() -> [u32; MONTHS] {
     table
 }
 
-/// Whether a day is a month's first.
+/// month-2: whether a day is a month's first.
 pub fn is_first_day(day: u32) -> bool {
     FIRST_DAYS.binary_search(&day).is_ok()
 }
 
-/// The month that a day lies in, counted from January 2022.
+/// month-2: the month that a day lies in, counted from January 2022.
 pub fn month_of(day: u32) -> usize {
     FIRST_DAYS.iter().filter(|first| **first <= day).count() - 1
 }

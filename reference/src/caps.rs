@@ -1,13 +1,14 @@
-//! The table of wholesale caps ("Units and caps"), and the search for those
-//! of a day (02, 2/13).
+//! The table of wholesale caps, and the search for those of a day. Rules caps-1
+//! to caps-3, rows-1 to rows-3.
 
 use crate::planted::{planted, Wrong};
 
-/// Caps in points: per GB, per outgoing minute, per incoming minute, per SMS.
+/// caps-1: points of a GB, an outgoing minute, an incoming minute, an SMS.
 /// Where caps are an argument, the data cap is at least 1.
 pub type Caps = [u64; 4];
 
-/// First day of each row with its caps. The last row runs to day 3833.
+/// caps-1: first day of each row with its caps. caps-3: the last has no end
+/// before day 3833.
 pub const ROWS: [(u32, Caps); 6] = [
     (181, [20_000, 220, 55, 40]),
     (365, [18_000, 220, 40, 40]),
@@ -17,16 +18,16 @@ pub const ROWS: [(u32, Caps); 6] = [
     (1826, [10_000, 190, 20, 30]),
 ];
 
-/// What the search for a day gives: its caps, and how many rows it read.
+/// What the search for a day gives: its caps, and rows-2: the rows read.
 #[derive(Clone, Copy, PartialEq, Eq, Debug)]
 pub struct Search {
     pub caps: Caps,
     pub read: u64,
 }
 
-/// Passes over rows from the last one back, until one has begun. Days before
-/// the first row have no caps; they occur in unsound accounts only and get the
-/// first row, all rows read, which is then never used.
+/// rows-1: passes over rows, the newest first, until one has begun (caps-2).
+/// Days before the first row have no caps; they occur in unsound accounts only
+/// and get the first row, all rows read, which is then never used.
 pub fn search(day: u64) -> Search {
     let late = u64::from(planted(Wrong::CapsOneDayLate));
     let begun = |(first, _): &(u32, Caps)| u64::from(*first) + late <= day;

@@ -1,4 +1,5 @@
-//! The checks that each random trip goes through.
+//! The checks that each random trip goes through. Rules list-1, list-2, list-9,
+//! half-8, book-, afford-1, trip-1, order-2.
 
 use crate::book::{Book, Stage};
 use crate::coverage::seen::{rest, Observed};
@@ -42,7 +43,7 @@ pub fn check_seed(seed: u64, coverage: &mut Coverage) -> Result<usize, Failure> 
     Ok(case.calls.len())
 }
 
-/// The account against the book after every call.
+/// book-12: the account against the book after every call.
 pub fn check_list(case: &Case, rng: &mut Rng, events: &mut TripEvents) -> Result<(), Failure> {
     let account = Account::open(case.plan).map_err(|n| format!("open refused: {n}"))?;
     let mut kept = Kept::new(account);
@@ -91,7 +92,7 @@ fn one_call(
     check_afford(account, kind)
 }
 
-/// The units of a kind that account and book hold.
+/// book-11: the units of a kind that account and book hold.
 fn compare_kind(account: &Account, book: &Book, kind: Kind) -> Result<(), Failure> {
     let k = kind as usize;
     let ours = [
@@ -105,8 +106,8 @@ fn compare_kind(account: &Account, book: &Book, kind: Kind) -> Result<(), Failur
     demand(right, || format!("units of {kind:?}"))
 }
 
-/// The answer of an accepted use or Afford against the two accounts and the
-/// book.
+/// use-13 to use-15, half-7: the answer of an accepted use against the two
+/// accounts and the book; Afford leaves the account (afford-1).
 fn check_answer(
     before: &Account,
     book: &Book,
@@ -135,7 +136,7 @@ fn check_answer(
     demand(right, || format!("wrong answer {answer:?}"))
 }
 
-/// Soundness, the balance, and the fields that the book knows too.
+/// Soundness, the balance (sound-4), and the fields that the book knows too.
 fn compare(account: &Account, book: &Book) -> Result<(), Failure> {
     demand(account.sound(), || "not sound".to_string())?;
     let balance = account.credit + account.home + account.extra;
@@ -169,7 +170,7 @@ fn compare(account: &Account, book: &Book) -> Result<(), Failure> {
     demand(states, || "service states".to_string())
 }
 
-/// Afford's n is accepted by Use and one more is refused, on copies.
+/// afford-1: Use accepts Afford's n and refuses one more, on copies.
 fn check_afford(account: &Account, kind: Kind) -> Result<(), Failure> {
     let n = match account.afford(kind) {
         Ok(Answer::Most(n)) => n,
@@ -184,8 +185,8 @@ fn check_afford(account: &Account, kind: Kind) -> Result<(), Failure> {
     demand(more, || format!("{} {kind:?} not affordable", n + 1))
 }
 
-/// Writing and reading give the same plan and calls, and the statement of the
-/// file is that of the list.
+/// trip-1: writing and reading give the same plan and calls. The statement of
+/// the file is that of the list.
 fn check_round_trip(case: &Case, rng: &mut Rng) -> Result<(), Failure> {
     let calls: Vec<(u32, u32)> = case.calls.iter().filter_map(|c| c.to_words()).collect();
     let (codes, numbers): (Vec<u32>, Vec<u32>) = calls.iter().copied().unzip();
@@ -229,8 +230,8 @@ fn plain_run(case: &Case) -> (Account, usize) {
     (account, refused)
 }
 
-/// Demand 3's claim about pairs of lists; answers the lists that the case was
-/// paired with.
+/// list-9, half-8: demand 3's claim about pairs of lists; answers the lists
+/// that the case was paired with.
 pub fn check_pairs(
     case: &Case,
     rng: &mut Rng,
@@ -259,8 +260,8 @@ pub fn check_pairs(
     Ok(lists)
 }
 
-/// Reading a random file gives the number that it was made for, and finding
-/// agrees with reading.
+/// order-4: reading a random file gives the number that it was made for, and
+/// finding agrees with reading.
 fn check_file(rng: &mut Rng, events: &mut TripEvents) -> Result<(), Failure> {
     let sample = damage::sample(rng);
     let bytes = &sample.bytes;
@@ -292,8 +293,8 @@ fn check_file(rng: &mut Rng, events: &mut TripEvents) -> Result<(), Failure> {
 }
 
 /// A random write returns what it was made for. Without being accepted it
-/// leaves the buffer, and what is written leaves the bytes behind it and is read
-/// again.
+/// leaves the buffer (order-2), and what is written leaves the bytes behind it
+/// (write-2) and is read again (trip-1).
 fn check_write(rng: &mut Rng, events: &mut TripEvents) -> Result<(), Failure> {
     let case = WriteCase::random(rng);
     let mut buffer = case.buffer.clone();

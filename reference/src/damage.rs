@@ -1,5 +1,6 @@
 //! Trip files made by hand: sound ones with other sections and orders, and
-//! damaged ones for each number of reading.
+//! damaged ones for each number of reading. Rules file-1 to file-9, refusal-10
+//! to refusal-15, fault-1 to fault-4.
 
 use crate::faults::bad_plan;
 use crate::generate::any_plan;
@@ -17,7 +18,7 @@ pub struct Sample {
 
 type Section = (u32, Vec<u8>);
 
-/// Puts sections into a file, with length, sum and table.
+/// file-2 to file-6: puts sections into a file, with length, sum and table.
 pub fn assemble(sections: &[Section]) -> Vec<u8> {
     let mut start = 12 + 12 * sections.len();
     let mut words = vec![0, 0, sections.len() as u32];
@@ -49,7 +50,7 @@ pub fn get(bytes: &[u8], index: usize) -> u32 {
     u32::from_le_bytes([bytes[at], bytes[at + 1], bytes[at + 2], bytes[at + 3]])
 }
 
-/// Makes the sum of all words 0 again.
+/// file-3: makes the sum right again.
 pub fn resum(bytes: &mut [u8]) {
     set(bytes, 1, 0);
     let sum = word_sum(bytes);
@@ -79,7 +80,8 @@ pub fn sample(rng: &mut Rng) -> Sample {
     Sample { bytes, expected }
 }
 
-/// Plan and calls in either order, with up to six sections of other kinds.
+/// file-9: plan and calls in either order, with up to six sections of other
+/// kinds.
 fn sound_sections(rng: &mut Rng, plan: &Plan) -> Vec<Section> {
     let count = rng.between(1, 12);
     let calls: Vec<u32> = (0..count).flat_map(|_| call_words(rng)).collect();
@@ -98,7 +100,8 @@ fn sound_sections(rng: &mut Rng, plan: &Plan) -> Vec<Section> {
     sections
 }
 
-/// A call that keeps rule 15; numbers of uses and top-ups are any word.
+/// A call that keeps refusal-15's rules; numbers of uses and top-ups are any
+/// word.
 fn call_words(rng: &mut Rng) -> [u32; 2] {
     let code = rng.between(1, 7) as u32;
     let number = match code {
@@ -115,7 +118,7 @@ fn body_of(sections: &mut [Section], kind: u32) -> &mut Vec<u8> {
     &mut section.expect("the section is there").1
 }
 
-/// 10: cut, lengthened, too long, too short, or another first word.
+/// refusal-10: cut, lengthened, too long, too short, or another first word.
 fn wrong_length(rng: &mut Rng, mut bytes: Vec<u8>) -> Vec<u8> {
     match rng.below(6) {
         0 => bytes.truncate(rng.below(bytes.len() as u64) as usize),
@@ -147,14 +150,14 @@ fn wrong_length(rng: &mut Rng, mut bytes: Vec<u8>) -> Vec<u8> {
     bytes
 }
 
-/// 11: one bit changed after the first word.
+/// refusal-11: one bit changed after the first word.
 fn wrong_sum(rng: &mut Rng, mut bytes: Vec<u8>) -> Vec<u8> {
     let at = rng.between(4, bytes.len() as u64 - 1) as usize;
     bytes[at] ^= 1 << rng.below(8);
     bytes
 }
 
-/// 12: count or table breaks a rule, the sum is right.
+/// refusal-12: a wrong count or table, the sum is right.
 fn wrong_table(rng: &mut Rng, sections: &[Section]) -> Vec<u8> {
     let mut bytes = assemble(sections);
     let count = sections.len();
@@ -244,7 +247,8 @@ fn uneven_lengths(bytes: &mut [u8], count: usize) {
     set(bytes, first + 5, rest.wrapping_sub(by));
 }
 
-/// 13: kind 1 or 2 missing or doubled; a doubled one may be ill-formed too.
+/// refusal-13: plan or calls missing or doubled; a doubled one may be
+/// ill-formed too.
 fn wrong_kinds(rng: &mut Rng, sections: &mut Vec<Section>) -> Vec<u8> {
     let kind = rng.pick(&[1, 2]);
     let at = sections.iter().position(|section| section.0 == kind);
@@ -266,7 +270,7 @@ fn wrong_kinds(rng: &mut Rng, sections: &mut Vec<Section>) -> Vec<u8> {
     assemble(sections)
 }
 
-/// 14: plan body not 28, calls body empty or not a multiple of 8; a call may be
+/// refusal-14: a plan of another size, no calls, or half a call; a call may be
 /// bad too.
 fn wrong_bodies(rng: &mut Rng, sections: &mut [Section]) -> Vec<u8> {
     if rng.chance(30) {
@@ -284,7 +288,7 @@ fn wrong_bodies(rng: &mut Rng, sections: &mut [Section]) -> Vec<u8> {
     assemble(sections)
 }
 
-/// 15: one call with a bad code or number; the plan may be bad too.
+/// refusal-15: one call with a bad code or number; the plan may be bad too.
 fn wrong_calls(rng: &mut Rng, sections: &mut [Section]) -> Vec<u8> {
     if rng.chance(30) {
         wrong_plan(rng, sections);
@@ -302,8 +306,8 @@ fn spoil_call(rng: &mut Rng, sections: &mut [Section]) {
     set(calls, at + 1, number);
 }
 
-/// 1, 17, 18 or 2: puts a plan with faults in place of the sound one; answers
-/// its number.
+/// fault-1 to fault-4: puts a plan with faults in place of the sound one;
+/// answers its number.
 fn wrong_plan(rng: &mut Rng, sections: &mut [Section]) -> u32 {
     let (words, number) = bad_plan(rng, &[u64::from(u32::MAX)]);
     *body_of(sections, 1) = to_bytes(&words.map(|word| word as u32));

@@ -8,7 +8,7 @@ use crate::tripfile;
 use std::collections::BTreeMap;
 
 /// Two lines for the opening and for each call of a file, or the one line of a
-/// bad file; numbers without words.
+/// bad file (statement-2); numbers without words.
 pub fn explained(bytes: &[u8]) -> String {
     lines_of(bytes).unwrap_or_else(|number| format!("file {number}\n"))
 }

@@ -1,6 +1,7 @@
 //! What can be wrong with a plan, field by field. Bad plans are made here with
-//! the number that they must get by 02, 4/13, and any seven words are told what
-//! is wrong with them. Nothing here asks the meter.
+//! the number that they must get, and any seven words are told what is wrong
+//! with them. Nothing here asks the meter. Rules fault-1 to fault-4, plan-1 to
+//! plan-6, refusal-2.
 
 use crate::generate::plan_of;
 use crate::plan::{BUNDLE, PREPAID, UNLIMITED};
@@ -40,7 +41,7 @@ pub enum Sort {
 }
 
 impl Sort {
-    /// The number of a plan with faults of this sort alone.
+    /// fault-1 to fault-4: the number of a plan with faults of this sort alone.
     pub fn number(self) -> u32 {
         match self {
             Sort::Form | Sort::Unused => 1,
@@ -51,7 +52,8 @@ impl Sort {
     }
 }
 
-/// Two sorts of faults at once, the one whose number is told first in front.
+/// order-4: two sorts of faults at once, the one whose number is told first in
+/// front.
 pub const PAIRS: [(Sort, Sort); 8] = [
     (Sort::Form, Sort::Price),
     (Sort::Unused, Sort::Price),
@@ -63,12 +65,16 @@ pub const PAIRS: [(Sort, Sort); 8] = [
     (Sort::Volume, Sort::Day),
 ];
 
-/// The numbers of a plan, the one that is told before the others first.
+/// order-4: the numbers of a plan, in the order in which they are told.
 const ORDER: [u32; 4] = [1, 17, 18, 2];
 
+/// plan-1: the three forms.
 const FORMS: [u32; 3] = [PREPAID, BUNDLE, UNLIMITED];
+/// plan-2: the highest price.
 const MOST_PRICE: u64 = 1_000_000;
+/// plan-3: the highest fee.
 const MOST_FEE: u64 = 10_000_000;
+/// plan-4: the largest V.
 const MOST_VOLUME: u64 = 1_073_741_824;
 
 impl Fault {
@@ -165,8 +171,8 @@ impl Fault {
     }
 }
 
-/// A start day outside its range; where words are wide, also one that would be
-/// inside if it were cut to 32 bits.
+/// refusal-2: a start day outside its range; where words are wide, also one
+/// that would be inside if it were cut to 32 bits.
 fn no_start_day(rng: &mut Rng, wide: &[u64]) -> u64 {
     match rng.below(5) {
         0 => 0,
@@ -189,8 +195,8 @@ pub fn first_number(faults: &[Fault]) -> u32 {
     ORDER.into_iter().find(told).unwrap_or(0)
 }
 
-/// Whether an unused field is not only other than 0, but also larger than any
-/// form may have it.
+/// fault-1: whether an unused field is not only other than 0, but also larger
+/// than any form may have it.
 pub fn unused_too_large(fault: Fault, words: &Words) -> bool {
     match fault {
         Fault::PrepaidFee => words[5] > MOST_FEE,

@@ -10,7 +10,7 @@ use crate::services::State;
 use crate::terms::{Call, Kind, Place, Service, GB};
 use crate::tripfile::{write, BEFORE_CALLS, MAX_CALLS};
 
-/// Outgoing records about the half minute of 02, 3/13.
+/// half-1: outgoing records about the half minute.
 const RECORDS: [u64; 4] = [1, LEAST_CHARGED - 1, LEAST_CHARGED, LEAST_CHARGED + 1];
 
 /// A plan that Open accepts and a list of calls.
@@ -65,7 +65,7 @@ pub fn trip(seed: u64) -> Case {
     }
 }
 
-/// As many calls as a file can hold.
+/// refusal-14: as many calls as a file can hold.
 fn largest(mut rng: Rng) -> Case {
     let plan = usual_plan(&mut rng);
     let plan = starting(plan, rng.between(181, 2000));
@@ -132,7 +132,8 @@ pub fn any_plan(rng: &mut Rng) -> Plan {
     plan_of(rng, form)
 }
 
-/// A plan of a form with prices, fee and V from their least to their limits.
+/// plan-2 to plan-4: a plan of a form with prices, fee and V from their least
+/// to their limits.
 pub fn plan_of(rng: &mut Rng, form: u32) -> Plan {
     let price = |rng: &mut Rng| match rng.below(6) {
         0 => 0,
@@ -161,7 +162,8 @@ pub fn plan_of(rng: &mut Rng, form: u32) -> Plan {
     }
 }
 
-/// A start day, often near a change of caps, a month's turn or the last day.
+/// refusal-2: a start day, often near a change of caps, a month's turn or the
+/// last day.
 fn start_day(rng: &mut Rng) -> u32 {
     match rng.below(4) {
         0 => 181 + rng.below(3) as u32,
@@ -179,7 +181,7 @@ fn starting(plan: Plan, start: u64) -> Plan {
 }
 
 /// A plan whose caps change after at most so many days; a bundle often closes
-/// as they fall.
+/// as they fall (plan-7).
 fn plan_before_cap_change(rng: &mut Rng, most_days: u64) -> Plan {
     let row = rng.between(1, 5) as usize;
     let start = u64::from(ROWS[row].0) - rng.between(1, most_days);
@@ -431,7 +433,7 @@ impl Maker {
         }
     }
 
-    /// Lifetime units up to their limit, where use is free.
+    /// refusal-5: lifetime units up to their limit, where use is free (use-10).
     fn many_units(&mut self) {
         let kind = self.kind();
         self.call(Call::Register(Place::Elsewhere));
@@ -448,8 +450,8 @@ impl Maker {
         self.mixed(20);
     }
 
-    /// Up to `most` times a credit that just pays for half a minute in the zone,
-    /// or is a point more or less, and short outgoing records.
+    /// half-1: up to `most` times a credit that just pays for half a minute in
+    /// the zone, or is a point more or less, and short outgoing records.
     fn half_minutes(&mut self, most: u64) {
         for _ in 0..self.rng.between(1, most) {
             let place = self.place();
@@ -468,8 +470,9 @@ impl Maker {
         }
     }
 
-    /// Outgoing seconds up to their limit, where they are free, with short
-    /// records before the last ones: charged seconds come to the limit first.
+    /// half-5: outgoing seconds up to their limit, where they are free, with
+    /// short records before the last ones: charged seconds come to the limit
+    /// first.
     fn many_seconds(&mut self) {
         let free = match self.account.plan.minute_price {
             0 => self.rng.pick(&Place::ALL),
@@ -503,7 +506,7 @@ impl Maker {
         self.call(Call::Use(Kind::Outgoing, n));
     }
 
-    /// Paid in up to its limit.
+    /// refusal-8: paid in up to its limit.
     fn many_top_ups(&mut self) {
         for _ in 0..99 {
             self.call(Call::TopUp(10_000_000));
@@ -521,7 +524,8 @@ impl Maker {
     }
 }
 
-/// What so many more outgoing seconds at a place would take from the credit.
+/// use-13: what so many more outgoing seconds at a place would take from the
+/// credit.
 fn points_of_seconds(account: &Account, place: Place, seconds: u64) -> u64 {
     let k = Kind::Outgoing as usize;
     let (mut priced, mut cap_sums) = (account.priced, account.cap_sums);

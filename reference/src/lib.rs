@@ -1,9 +1,10 @@
-//! A second implementation of the roaming meter of document 01, with the
-//! requests of document 02 that are built (1/13, off days; 2/13, the search for
-//! caps; 3/13, the first half minute; 4/13, the faults of a plan told apart),
-//! written from the papers and, where they leave a point open, from the readings
-//! of docs/DECISIONS.md. It serves as the other side of a differential test and
-//! as a baseline for measurements.
+//! A second implementation of the roaming meter, with the requests that are
+//! built: off days (off-), the search for caps (rows-), the first half minute
+//! (half-) and the faults of a plan told apart (fault-). It was written from
+//! documents 01 and 02 and, where they leave a point open, from the readings of
+//! docs/DECISIONS.md. It serves as the other side of a differential test
+//! (promise-3) and as a baseline for measurements. An id in a comment, as
+//! half-1, is that of a rule in docs/RULES.md.
 //!
 //! Programs: `refstatement` prints a statement, `selfcheck` holds the meter
 //! against the book, `differ` holds the proved meter against this one, `bench`

@@ -1,15 +1,15 @@
-//! Demand 3 about pairs of lists: opened alike and with the same cuts, two
-//! lists have the same units and, by 02, 3/13, the same charged seconds in every
-//! stretch exactly when their accounts are equal just before each cut and at the
-//! end. What a record is charged as is worked out here anew.
+//! Demand 3 about pairs of lists: two that were opened alike and have the same
+//! cuts go through equal accounts if and only if their stretches agree (list-9,
+//! half-8). What a record is charged as (half-1) is worked out here anew. Rules
+//! list-2 to list-9.
 
 use crate::meter::{Account, MAX_UNITS};
 use crate::plan::Plan;
 use crate::rng::Rng;
 use crate::terms::{Call, Kind, Place};
 
-/// The cuts of a list, and for each stretch the units by kind and the charged
-/// outgoing seconds.
+/// list-5, list-8: the cuts of a list, and for each stretch the units by kind
+/// and the charged outgoing seconds.
 #[derive(Clone, PartialEq, Eq, Debug)]
 pub struct Stretches {
     pub cuts: Vec<Call>,
@@ -18,7 +18,7 @@ pub struct Stretches {
 }
 
 impl Default for Stretches {
-    /// Before the first call: one stretch, without units.
+    /// list-7: before the first call, one stretch without units.
     fn default() -> Stretches {
         Stretches {
             cuts: Vec::new(),
@@ -29,7 +29,8 @@ impl Default for Stretches {
 }
 
 impl Stretches {
-    /// Adds an accepted call; `charged` is what a use was charged as.
+    /// list-5, list-8: adds an accepted call; `charged` is what a use was
+    /// charged as.
     pub fn add(&mut self, call: Call, charged: u64) {
         let last = self.units.len() - 1;
         match call {
@@ -61,7 +62,7 @@ pub struct Trace {
     pub accounts: Vec<Account>,
 }
 
-/// Runs a list from the opening. The plan is one that Open accepts.
+/// list-2: runs a list from the opening. The plan is one that Open accepts.
 pub fn trace(plan: Plan, calls: &[Call]) -> Trace {
     let mut account = Account::open(plan).expect("the plan keeps its ranges");
     let mut trace = Trace {
@@ -97,7 +98,7 @@ impl Trace {
         self.zone_records.push(Vec::new());
     }
 
-    /// An accepted use in the last stretch.
+    /// list-8, half-1: an accepted use in the last stretch.
     fn add_use(&mut self, in_zone: bool, kind: Kind, n: u64) {
         let last = self.units.len() - 1;
         self.units[last][kind as usize] += n;
@@ -120,21 +121,21 @@ impl Trace {
         }
     }
 
-    /// Whether units and charged seconds agree in every stretch.
+    /// half-8: whether units and charged seconds agree in every stretch.
     pub fn stretches_agree(&self, other: &Trace) -> bool {
         self.units == other.units && self.charged == other.charged
     }
 
-    /// The claim about two lists; nothing is claimed of different cuts.
+    /// list-9: the claim about two lists; nothing is claimed of different cuts.
     pub fn matches(&self, other: &Trace) -> bool {
         let accounts_agree = self.accounts == other.accounts;
         self.cuts != other.cuts || self.stretches_agree(other) == accounts_agree
     }
 }
 
-/// Another list with the same cuts and stretches: uses are split and shuffled
-/// within each stretch, outgoing zone records so that their charged seconds
-/// stay, and calls that are no cuts are inserted.
+/// list-9: another list with the same cuts and stretches. Uses are split and
+/// shuffled within each stretch, outgoing zone records so that their charged
+/// seconds stay (half-8), and calls that are no cuts are inserted.
 pub fn rearranged(rng: &mut Rng, trace: &Trace) -> Vec<Call> {
     let mut calls = Vec::new();
     for (index, units) in trace.units.iter().enumerate() {
@@ -172,9 +173,10 @@ fn split(rng: &mut Rng, total: u64) -> Vec<u64> {
     parts
 }
 
-/// Other outgoing zone records with the same sum and the same charged seconds:
-/// some of a minute or more become two that last half a minute at least, and
-/// of two that last half a minute at most one gives seconds to the other.
+/// half-1: other outgoing zone records with the same sum and the same charged
+/// seconds. Some of a minute or more become two that last half a minute at
+/// least, and of two that last half a minute at most one gives seconds to the
+/// other.
 fn other_records(rng: &mut Rng, records: &[u64]) -> Vec<u64> {
     let mut parts = Vec::new();
     for n in records.iter().copied() {
@@ -194,9 +196,9 @@ fn other_records(rng: &mut Rng, records: &[u64]) -> Vec<u64> {
     parts
 }
 
-/// The list with one outgoing zone record made into two, of which the first is
-/// under half a minute: as many seconds, and more charged ones. None where the
-/// list has no such record of two seconds or more.
+/// half-8: the list with one outgoing zone record made into two, of which the
+/// first is under half a minute: as many seconds, and more charged ones. None
+/// where the list has no such record of two seconds or more.
 pub fn divided(rng: &mut Rng, calls: &[Call]) -> Option<Vec<Call>> {
     let mut place = None;
     let mut records = Vec::new();

@@ -1,5 +1,7 @@
-//! The account and its calls. Each call looks at soundness first (refusal 0);
-//! a refusal is 01's number and leaves the account unchanged.
+//! The account and its calls. Each call looks at soundness first (refusal-0); a
+//! refusal is its number and leaves the account unchanged (order-2). Rules
+//! account-2 to account-4, sound-, limit-, register-, topup-, use-, half-,
+//! day-, afford-1, refusal-0 to refusal-9.
 
 use crate::calendar;
 use crate::caps::{caps_on, Caps};
@@ -9,23 +11,23 @@ use crate::planted::{planted, Wrong};
 use crate::services::{step, Day, Log, State, LOG_DAYS};
 use crate::terms::{Call, Kind, Place, Service};
 
-/// Refusal 4: largest n of one use.
+/// refusal-4: the most units of a use.
 pub const MAX_UNITS: u64 = 1_000_000_000;
-/// Refusal 5: lifetime units of a kind.
+/// refusal-5: the most lifetime units of a kind; half-5: of charged seconds.
 pub const MAX_LIFETIME: u64 = 1_000_000_000_000;
-/// Refusal 7: largest top-up.
+/// refusal-7: the most points of a top-up.
 pub const MAX_TOP_UP: u64 = 10_000_000;
-/// Refusal 8: paid in.
+/// refusal-8: the most that is paid in.
 pub const MAX_PAID_IN: u64 = 1_000_000_000;
-/// Soundness: L.
+/// sound-9: the largest L.
 pub const MAX_LIMIT: u64 = 2_000_000_000_000_000;
-/// Soundness: points of cap for each surcharged unit.
+/// sound-8: the most of a cap sum for each surcharged unit.
 pub const MAX_CAP: u64 = 20_000;
-/// 02, 3/13: the least that an outgoing zone record is charged as, in seconds.
+/// half-1: the least that an outgoing zone record is charged as, in seconds.
 pub const LEAST_CHARGED: u64 = 30;
 
-/// The fields listed under "Account and its calls". Arrays "of each kind" go
-/// by `Kind`, states by `Service`; the log is newest first.
+/// account-2: the fields. Arrays of units go by `Kind`, states by `Service`;
+/// the log is newest first. account-4: accounts are compared by all of them.
 #[derive(Clone, PartialEq, Eq, Debug)]
 pub struct Account {
     pub plan: Plan,
@@ -36,7 +38,7 @@ pub struct Account {
     pub home: u64,
     pub extra: u64,
     pub lifetime: [u64; 4],
-    /// 02, 3/13: outgoing seconds as charged, over the account's life and at
+    /// half-3: outgoing seconds as charged, over the account's life and at
     /// every place; `lifetime` has them as spoken.
     pub charged: u64,
     pub priced: [u64; 4],
@@ -55,8 +57,8 @@ pub struct Account {
 pub enum Answer {
     /// Register, Top-up and Next day.
     Done,
-    /// Use: home and surcharge points taken, surcharged units, what the record
-    /// was charged as, notice.
+    /// Use: points of both charges and surcharged units (use-14), what the
+    /// record was charged as (half-7), notice (use-15).
     Used {
         home: u64,
         extra: u64,
@@ -64,7 +66,7 @@ pub enum Answer {
         charged: u64,
         notice: bool,
     },
-    /// Afford: the largest n for which Use is accepted, 0 if none.
+    /// afford-1: the greatest n that Use would accept, or 0.
     Most(u64),
 }
 
@@ -78,12 +80,12 @@ struct Charge {
 }
 
 impl Account {
-    /// Open: 1, 17, 18, 2, all of them about the plan.
+    /// Open: 1, 17, 18, 2 (order-4), all of them about the plan.
     pub fn open(plan: Plan) -> Result<Account, u32> {
         Account::open_at(plan, &caps_on(plan.start))
     }
 
-    /// Open with the caps as an argument.
+    /// Open with the caps as an argument. account-3: 0 in all numbers but L.
     pub fn open_at(plan: Plan, caps: &Caps) -> Result<Account, u32> {
         plan.check()?;
         Ok(Account {
@@ -108,14 +110,14 @@ impl Account {
         })
     }
 
-    /// The soundness list. Ranges come first, so that the sums after them
+    /// sound-1 to sound-11. Ranges come first, so that the sums after them
     /// cannot overflow whatever the fields hold.
     pub fn sound(&self) -> bool {
         planted(Wrong::AlwaysSound)
             || (self.days_sound() && self.units_sound() && self.money_sound())
     }
 
-    /// Plan, day, log length, Warned counts and L.
+    /// sound-1, sound-9 to sound-11: plan, day, L, log length and warnings.
     fn days_sound(&self) -> bool {
         self.plan.check().is_ok()
             && day_in_range(self.day)
@@ -128,11 +130,10 @@ impl Account {
                 .all(|state| !matches!(state, State::Warned(changes) if *changes > 14))
     }
 
-    /// Units of each kind against the lifetime units of that kind, and cap
-    /// sums against the surcharged units. Of outgoing seconds, the charged ones
-    /// have a limit of their own and are what priced and surcharged ones are
-    /// held against (02, 3/13); how they compare with the spoken ones is no
-    /// matter of soundness.
+    /// sound-2, sound-5 to sound-8: units against lifetime units, and cap sums.
+    /// half-6: of outgoing seconds, the charged ones have that limit and are
+    /// what priced and surcharged ones are held against; how they compare with
+    /// the spoken ones is no matter of soundness.
     fn units_sound(&self) -> bool {
         let logged = self.logged_units();
         let data = self.lifetime[Kind::Data as usize];
@@ -151,7 +152,7 @@ impl Account {
         (0..4).all(kind_sound) && self.r <= data && self.h <= data
     }
 
-    /// Today's units with the log's, by kind over all places. The log has at
+    /// sound-7: the units of all days, by kind over all places. The log has at
     /// most 123 days here. A number of 2^50 or more is over every lifetime
     /// limit by itself; below it no sum comes near 2^64.
     fn logged_units(&self) -> [u64; 4] {
@@ -174,7 +175,7 @@ impl Account {
         sums.map(|places| places.iter().sum())
     }
 
-    /// Charges as worked out from the amounts held; paid in = credit + both.
+    /// sound-2 to sound-4: paid in, and charges by what is held.
     fn money_sound(&self) -> bool {
         let held = u128::from(self.credit) + u128::from(self.home) + u128::from(self.extra);
         let home = home_points(&self.plan, &self.priced);
@@ -184,8 +185,8 @@ impl Account {
             && u128::from(self.paid_in) == held
     }
 
-    /// Register: sets place and marks today; a prepaid account entering the
-    /// zone gets a new L and R = 0.
+    /// register-1: place and mark. register-2: coming into the zone renews a
+    /// prepaid L.
     pub fn register(&mut self, place: Place) -> Result<Answer, u32> {
         self.register_at(place, &caps_on(self.day))
     }
@@ -205,8 +206,8 @@ impl Account {
         Ok(Answer::Done)
     }
 
-    /// Top-up: 7, 8; adds to credit and paid in, and renews the limit of a
-    /// prepaid account in the zone from the new credit.
+    /// Top-up: 7, 8 (order-3). topup-1: credit and paid in grow. topup-2: a
+    /// prepaid L is renewed in the zone.
     pub fn top_up(&mut self, amount: u64) -> Result<Answer, u32> {
         self.top_up_at(amount, &caps_on(self.day))
     }
@@ -238,6 +239,7 @@ impl Account {
         Ok(Answer::Done)
     }
 
+    /// register-2, topup-2: a prepaid L from the credit, and R 0.
     fn renew_prepaid_limit(&mut self, credit: u64, caps: &Caps) {
         if self.plan.form == PREPAID {
             self.l = Some(prepaid_limit(credit, caps[0]));
@@ -245,7 +247,7 @@ impl Account {
         }
     }
 
-    /// Use: 3, 4, 5, 6.
+    /// Use: 3, 4, 5, 6 (order-3).
     pub fn use_units(&mut self, kind: Kind, n: u64) -> Result<Answer, u32> {
         self.use_units_at(kind, n, &caps_on(self.day))
     }
@@ -283,7 +285,8 @@ impl Account {
         Ok(self.take(place, kind, n, caps[kind as usize], charge))
     }
 
-    /// What n units would bear. The account is sound and n at most a billion.
+    /// What n units would bear, and use-11, use-12: the charges of a life with
+    /// them. The account is sound and n at most a billion.
     fn charge(&self, place: Place, kind: Kind, n: u64, cap: u64) -> Charge {
         let k = kind as usize;
         let units = charged_units(place, kind, n);
@@ -308,15 +311,15 @@ impl Account {
         }
     }
 
-    /// Whether charged seconds stay within refusal 5's limit (02, 3/13).
+    /// half-5: whether charged seconds stay within refusal-5's limit.
     fn has_room_for(&self, kind: Kind, charge: &Charge) -> bool {
         kind != Kind::Outgoing
             || self.charged + charge.units <= MAX_LIFETIME
             || planted(Wrong::ChargedSecondsNotLimited)
     }
 
-    /// Home price: home and zone only; all prepaid kB, a bundle's kB after
-    /// the first V of H, none without limit; outgoing seconds; SMS.
+    /// use-2 to use-5: what bears the home price, of a bundle's kB those past
+    /// V; nothing received or elsewhere.
     fn priced_units(&self, place: Place, kind: Kind, n: u64) -> u64 {
         match (place, kind) {
             (_, Kind::Incoming) if planted(Wrong::IncomingPriced) => n,
@@ -333,8 +336,8 @@ impl Account {
         }
     }
 
-    /// Surcharge: all zone units of a Surcharged service, else zone kB after
-    /// the first L of R; each unit at most once.
+    /// use-7: zone kB past L of R; use-8: all zone units of what is Surcharged;
+    /// use-9: each once.
     fn surcharged_units(&self, place: Place, kind: Kind, n: u64) -> u64 {
         if place != Place::Zone {
             return 0;
@@ -350,7 +353,7 @@ impl Account {
         past_limit
     }
 
-    /// Books an accepted use and answers it.
+    /// use-1, use-13: books an accepted use; use-14, half-7: answers it.
     fn take(&mut self, place: Place, kind: Kind, n: u64, cap: u64, charge: Charge) -> Answer {
         let home = charge.home - self.home;
         let extra = charge.extra - self.extra;
@@ -377,7 +380,7 @@ impl Account {
         }
     }
 
-    /// Lifetime, priced and surcharged units of an accepted use.
+    /// Lifetime, charged (half-3), priced and surcharged units of a use.
     fn count_units(&mut self, kind: Kind, n: u64, cap: u64, charge: &Charge) {
         let k = kind as usize;
         if kind != Kind::Incoming || !planted(Wrong::IncomingNotInLifetime) {
@@ -393,7 +396,7 @@ impl Account {
         self.cap_sums[k] += cap * charge.surcharged;
     }
 
-    /// "A notice if R was below L and now isn't."
+    /// use-15: R was below L, and with n more is not.
     fn gives_notice(&self, place: Place, kind: Kind, n: u64) -> bool {
         let one_more = u64::from(planted(Wrong::NoticePastLimitAlone));
         match (place, kind, self.l) {
@@ -405,7 +408,7 @@ impl Account {
         }
     }
 
-    /// H: a bundle's home and zone kB of the month. R: zone kB.
+    /// limit-2: H counts a bundle's kB but elsewhere; limit-1: R all zone kB.
     fn count_data(&mut self, place: Place, n: u64) {
         let left_out = planted(Wrong::UnlimitedMonthNotCounted) && self.plan.form == UNLIMITED;
         if place != Place::Elsewhere && !self.plan.is_prepaid() && !left_out {
@@ -416,8 +419,8 @@ impl Account {
         }
     }
 
-    /// Next day: 9. Today joins the log, the services step, the day grows,
-    /// and on a month's first day a bundle's H, R and L are set anew.
+    /// Next day: 9. day-1: today becomes the newest of the log; the services
+    /// step; day-3: the next day; limit-7: a bundle's month turns.
     pub fn next_day(&mut self) -> Result<Answer, u32> {
         if !self.sound() {
             return Err(0);
@@ -447,7 +450,7 @@ impl Account {
         Ok(Answer::Done)
     }
 
-    /// Afford: 3. The largest n for which Use is accepted, 0 if none.
+    /// Afford: 3. afford-1: the greatest n that Use would accept, or 0.
     pub fn afford(&self, kind: Kind) -> Result<Answer, u32> {
         self.afford_at(kind, &caps_on(self.day))
     }
@@ -487,9 +490,8 @@ impl Account {
     }
 }
 
-/// The units that a record bears charges for (02, 3/13). An outgoing call in
-/// the zone pays for its first half minute whole, and after that by the second;
-/// all other use pays for what it is.
+/// half-1: an outgoing zone record is charged 30 seconds at least; half-2: any
+/// other what it has.
 pub fn charged_units(place: Place, kind: Kind, n: u64) -> u64 {
     let whole_half_minute = match (place, kind) {
         (Place::Zone, Kind::Outgoing) => !planted(Wrong::SpokenSecondsCharged),

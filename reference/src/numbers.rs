@@ -1,19 +1,20 @@
 //! An account as the numbers of the C interface and back, by the layout of
-//! include/meter.h. Two accounts are equal exactly when their numbers are.
+//! include/meter.h. Two accounts are equal exactly when their numbers are
+//! (account-4). Rules library-1, library-2, library-5.
 
 use crate::meter::Account;
 use crate::plan::Plan;
 use crate::services::{Day, Log, State, LOG_DAYS};
 use crate::terms::Place;
 
-/// How many numbers an account has.
+/// library-1: how many numbers an account has.
 pub const ACCOUNT_NUMBERS: usize = 1649;
 /// How many of them a day of the log has.
 pub const DAY_NUMBERS: usize = 13;
 
 pub type Numbers = [u64; ACCOUNT_NUMBERS];
 
-/// Where the numbers stand.
+/// library-1: where the numbers stand.
 pub mod at {
     pub const LOG: usize = 0;
     pub const PLAN: usize = 1599;
@@ -92,6 +93,7 @@ fn day_numbers(day: &Day) -> [u64; DAY_NUMBERS] {
     numbers
 }
 
+/// library-2: the number of a service's state.
 fn state_number(state: State) -> u64 {
     match state {
         State::Clear => 0,
@@ -100,10 +102,11 @@ fn state_number(state: State) -> u64 {
     }
 }
 
-/// The account that numbers stand for. None where they stand for no account:
-/// another count of them, an unknown place or mark, a log of over 123 days, or
-/// numbers of days past its count. Plan, day and warnings are words here. What
-/// is wider becomes the last word: all their ranges end before it.
+/// The account that numbers stand for. None where they stand for no account
+/// (library-5): another count of them, an unknown place or mark, a log of over
+/// 123 days, or numbers of days past its count. Plan, day and warnings are
+/// words here. What is wider becomes the last word: all their ranges end before
+/// it.
 pub fn account(numbers: &[u64]) -> Option<Account> {
     let all: &Numbers = numbers.try_into().ok()?;
     Some(Account {

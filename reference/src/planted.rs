@@ -1,123 +1,132 @@
 //! Wrong rules that can be planted in this meter, one at a time, to show that
-//! the comparison with the proved meter finds each. Without the feature
-//! `planted` the question below is answered no when the crate is built, and
-//! costs nothing. With it, METER_WRONG names the rule by its number.
+//! the comparison with the proved meter finds each. The id at each is that of
+//! the rule which it breaks. Without the feature `planted` the question below
+//! is answered no when the crate is built, and costs nothing. With it,
+//! METER_WRONG names the rule by its number.
 
 /// A mistake that the meter could hold.
 #[derive(Clone, Copy, PartialEq, Eq, Debug)]
 pub enum Wrong {
-    /// Home charges are rounded down at each record.
+    /// mistake-1, use-11: home charges are rounded down at each record.
     RoundsEachRecord = 1,
-    /// A top-up in the zone reckons L from the amount, not from the credit.
+    /// mistake-2, topup-2: L comes from the amount of a top-up.
     LimitFromTopUp,
-    /// A kB past L bears the surcharge twice while data is Surcharged.
+    /// mistake-3, use-9: past L and Surcharged, a kB bears it twice.
     SurchargesTwice,
-    /// A prepaid L and R are set anew on a month's first day.
+    /// limit-7: a prepaid L and R are set anew on a month's first day.
     PrepaidMonthTurn,
-    /// Registering in the zone again gives a prepaid account a new L.
+    /// mistake-5, register-2: registering in the zone again gives a new L.
     NewLimitOnRegisteringAgain,
-    /// One zone day less is enough, over 123 days: 61 where no day is off.
+    /// service-4, off-4: one zone day less is enough, over 123 days: 61 where
+    /// no day is off.
     OneZoneDayLessOf123,
-    /// One zone day less is enough, over 15 days: 7 where no day is off.
+    /// service-4, off-4: one zone day less is enough, over 15 days: 7 where no
+    /// day is off.
     OneZoneDayLessOf15,
-    /// Off days count as home days do.
+    /// off-1: off days count as home days do.
     OffDaysAsHome,
-    /// Half of the days that are not off are enough.
+    /// off-1: half of the days that are not off are enough.
     HalfTheDaysPrevail,
-    /// The zone days themselves, not twice their number, must exceed the days
-    /// that are not off.
+    /// off-1: the zone days must be more than all days on, not than half of
+    /// them.
     TwiceForgotten,
-    /// A bundle's H runs on over the month's turn.
+    /// limit-7: a bundle's H runs on over the month's turn.
     MonthlyUseKept,
-    /// Each row of caps begins a day late.
+    /// caps-2: each row of caps begins a day late.
     CapsOneDayLate,
-    /// The search for caps stops one row early.
+    /// rows-1: the search for caps stops one row early.
     FirstRowNeverRead,
-    /// The caps are those of the row after the one that has begun.
+    /// caps-2: the caps are those of the row after the one that has begun.
     RowAfter,
-    /// The rows that the search read are counted from 0.
+    /// rows-2: the rows that the search read are counted from 0.
     RowsCountedFromZero,
-    /// The rows are read from the first one on, and so counted.
+    /// rows-1: the rows are read from the first one on, and so counted.
     RowsReadFromTheFirst,
-    /// One kB more than V is included.
+    /// use-4: one kB more than V is included.
     OneMoreThanVolume,
-    /// The statement leaves refused calls out.
+    /// statement-1: the statement leaves refused calls out.
     RefusedNotCounted,
-    /// Files are read whatever their sum is.
+    /// refusal-11: files are read whatever their sum is.
     SumNotChecked,
-    /// The writer clears the bytes after the file.
+    /// write-2: the writer clears the bytes after the file.
     ClearsTheRest,
-    /// The writer looks at the room before it looks at the calls.
+    /// order-4: the writer looks at the room before it looks at the calls.
     RoomBeforeCalls,
-    /// The writer looks at the calls before it looks at the plan.
+    /// order-4: the writer looks at the calls before it looks at the plan.
     CallsBeforePlan,
-    /// A section of another kind than plan and calls may be there twice.
+    /// refusal-13: a section of another kind than plan and calls may be there
+    /// twice.
     OtherKindsTwice,
-    /// A short outgoing zone record is charged as it was spoken.
+    /// half-1: a short outgoing zone record is charged as it was spoken.
     SpokenSecondsCharged,
-    /// A short outgoing record at home is charged half a minute, too.
+    /// half-2: a short outgoing record at home is charged half a minute, too.
     HalfMinuteAtHome,
-    /// The surcharge bears on spoken seconds, though the home price bears on
-    /// the charged ones.
+    /// half-1: the surcharge bears on spoken seconds, though the home price
+    /// bears on the charged ones.
     SurchargeOnSpokenSeconds,
-    /// The day's record gets charged seconds, so that prevalence is by them.
+    /// half-4: the day's record gets charged seconds, so that prevalence is by
+    /// them.
     PrevalenceByChargedSeconds,
-    /// Refusal 5 looks at spoken seconds alone.
+    /// half-5: refusal-5 looks at spoken seconds alone.
     ChargedSecondsNotLimited,
-    /// Half a minute is added to every outgoing zone record.
+    /// half-1: half a minute is added to every outgoing zone record.
     HalfMinuteAdded,
-    /// A plan's fee and V are looked at before its prices.
+    /// fault-2, fault-3: a plan's fee and V are looked at before its prices.
     FeeBeforePrices,
-    /// Prices are looked at before the fields that the form leaves out: a
-    /// data price without volume limit that is too high, too, is 17.
+    /// fault-1, fault-2: prices are looked at before the fields that the form
+    /// leaves out: a data price without volume limit that is too high, too, is
+    /// 17.
     PricesBeforeUnused,
-    /// A fee or V that the form leaves out is told as 18 where it is too large,
-    /// too.
+    /// fault-1: a fee or V that the form leaves out is told as 18 where it is
+    /// too large, too.
     UnusedToldAsFee,
-    /// The start day is looked at before fee and V.
+    /// fault-4: the start day is looked at before fee and V.
     DayBeforeFee,
-    /// A bundle without any kB of volume is opened.
+    /// fault-3: a bundle without any kB of volume is opened.
     NoVolumeAccepted,
-    /// A price that is too high is still told as 1.
+    /// fault-2: a price that is too high is still told as 1.
     PricesToldAsForm,
-    /// The writer counts codes and numbers before it looks at the plan.
+    /// order-4: the writer counts codes and numbers before it looks at the
+    /// plan.
     CountBeforePlan,
-    /// No use gives a notice.
+    /// use-15: no use gives a notice.
     NoticeNever,
-    /// A notice comes where R passes L, and not where it just reaches it.
+    /// use-15: a notice comes where R passes L, and not where it just reaches
+    /// it.
     NoticePastLimitAlone,
-    /// A use answers all its units as surcharged ones.
+    /// use-14: a use answers all its units as surcharged ones.
     AllUnitsAnsweredAsSurcharged,
-    /// A use answers its surcharge as home points, and the other way round.
+    /// use-14: a use answers its surcharge as home points, and the other way
+    /// round.
     PointsAnsweredTheOtherWay,
-    /// Units out of range are told as 6, not as 4.
+    /// refusal-4: units out of range are told as 6, not as 4.
     UnitsToldAsCredit,
-    /// Use looks at the units before it looks at the place.
+    /// order-3: Use looks at the units before it looks at the place.
     UnitsBeforePlace,
-    /// A top-up that would pass the limit of all payments is told as 7, not 8.
+    /// refusal-8: a top-up over the limit of all payments is told as 7, not 8.
     PaidInToldAsAmount,
-    /// Surcharged units of calls and SMS are not counted, though they are charged;
-    /// soundness lets it pass.
+    /// account-2: surcharged units of calls and SMS are not counted, though
+    /// they are charged; soundness lets it pass (sound-8).
     SurchargedCallsNotCounted,
-    /// H of a bundle without volume limit stays 0.
+    /// limit-2: H of a bundle without volume limit stays 0.
     UnlimitedMonthNotCounted,
-    /// A use that is refused marks the day.
+    /// order-2: a use that is refused marks the day.
     RefusedUseMarks,
-    /// Every account is taken for a sound one.
+    /// refusal-0: every account is taken for a sound one.
     AlwaysSound,
-    /// Soundness does not hold cap sums against surcharged units.
+    /// sound-8: soundness does not hold cap sums against surcharged units.
     CapSumsNotBounded,
-    /// A top-up marks the day.
+    /// topup-1: a top-up marks the day.
     TopUpMarks,
-    /// Incoming seconds are left out of the lifetime units.
+    /// use-1: incoming seconds are left out of the lifetime units.
     IncomingNotInLifetime,
-    /// Incoming seconds are kept as priced ones.
+    /// use-5: incoming seconds are kept as priced ones.
     IncomingPriced,
-    /// Incoming seconds at home are among the other units of calls.
+    /// service-3: incoming seconds at home are among the other units of calls.
     HomeIncomingCounts,
-    /// As many zone units as other units prevail.
+    /// service-4: as many zone units as other units prevail.
     EqualUnitsPrevail,
-    /// A day that is marked elsewhere alone is off.
+    /// day-2: a day that is marked elsewhere alone is off.
     ElsewhereDayOff,
 }
 

@@ -1,23 +1,25 @@
-//! Days of the log and the states of the three services ("Next day").
+//! Days of the log and the states of the three services. Rules day-1, day-2,
+//! service-1 to service-10, off-1 to off-4.
 
 use crate::planted::{planted, Wrong};
 use crate::terms::{Kind, Place, Service};
 use std::collections::VecDeque;
 
-/// The log holds the last 123 days, newest first.
+/// day-1: the log holds 123 days, newest first.
 pub const LOG_DAYS: usize = 123;
-/// The window of the decision after a warning.
+/// service-8: the window of the decision after a warning.
 pub const SHORT_DAYS: usize = 15;
 
 pub type Log = VecDeque<Day>;
 
-/// A day's marks by place, and its units by kind and place.
+/// account-2: a day's marks by place, and the units of each kind at each place.
 #[derive(Clone, Copy, PartialEq, Eq, Debug, Default)]
 pub struct Day {
     pub marks: [bool; 3],
     pub units: [[u64; 3]; 4],
 }
 
+/// day-2: what a day counts as.
 #[derive(Clone, Copy, PartialEq, Eq, Debug)]
 pub enum DayCount {
     Home,
@@ -25,7 +27,7 @@ pub enum DayCount {
     Off,
 }
 
-/// "Warned with its day changes so far".
+/// service-1: a service's state; Warned has the day changes since then.
 #[derive(Clone, Copy, PartialEq, Eq, Debug)]
 pub enum State {
     Clear,
@@ -38,8 +40,7 @@ impl Day {
         self.marks[place as usize] = true;
     }
 
-    /// "It counts as home if marked home or elsewhere, else zone if marked
-    /// zone, else off."
+    /// day-2: home, also by a mark of elsewhere; else zone; without marks off.
     pub fn counts_as(&self) -> DayCount {
         let elsewhere =
             || self.marks[Place::Elsewhere as usize] && !planted(Wrong::ElsewhereDayOff);
@@ -56,7 +57,7 @@ impl Day {
         self.units[kind as usize][place as usize]
     }
 
-    /// Zone units of a service; those of calls are outgoing + incoming.
+    /// service-2: zone units of a service, of calls in both directions.
     pub fn zone_units(&self, service: Service) -> u64 {
         match service {
             Service::Data => self.of(Kind::Data, Place::Zone),
@@ -67,8 +68,7 @@ impl Day {
         }
     }
 
-    /// Other units of a service; those of calls are home outgoing and both
-    /// kinds elsewhere.
+    /// service-3: other units of a service, without incoming ones at home.
     pub fn other_units(&self, service: Service) -> u64 {
         match service {
             Service::Data => {
@@ -90,7 +90,7 @@ impl Day {
 }
 
 /// What a window holds: its days by what they count as, and zone and other
-/// units of a service.
+/// units of a service (service-6).
 #[derive(Clone, Copy, PartialEq, Eq, Debug, Default)]
 pub struct Window {
     pub home_days: usize,
@@ -100,7 +100,7 @@ pub struct Window {
     pub other_units: u64,
 }
 
-/// The sums over the last w days, or over all logged ones if fewer.
+/// service-5: the sums over the w newest days, or all that are logged.
 pub fn window(log: &Log, w: usize, service: Service) -> Window {
     let mut sums = Window::default();
     for day in log.iter().take(w) {
@@ -116,7 +116,7 @@ pub fn window(log: &Log, w: usize, service: Service) -> Window {
 }
 
 impl Window {
-    /// The logged days of the window that are not off.
+    /// off-1: the days of the window that are on.
     pub fn days_on(&self) -> usize {
         if planted(Wrong::OffDaysAsHome) {
             return self.home_days + self.zone_days + self.off_days;
@@ -124,7 +124,7 @@ impl Window {
         self.home_days + self.zone_days
     }
 
-    /// Document 02, 1/13: whether twice the zone days exceed the days on.
+    /// off-1: whether over half of the days on are zone days; off-2, off-4.
     fn zone_days_prevail(&self, w: usize) -> bool {
         let zone_days = match w {
             LOG_DAYS if planted(Wrong::OneZoneDayLessOf123) => self.zone_days + 1,
@@ -140,19 +140,19 @@ impl Window {
         2 * zone_days > self.days_on()
     }
 
-    /// Zone days prevail and zone units exceed other units.
+    /// service-4: enough zone days, and more zone units than others.
     pub fn prevails(&self, w: usize) -> bool {
         let equal = planted(Wrong::EqualUnitsPrevail) && self.zone_units == self.other_units;
         self.zone_days_prevail(w) && (self.zone_units > self.other_units || equal)
     }
 }
 
-/// Whether a service is prevalent over w days, w being 123 or 15.
+/// service-4: whether a service prevails in its last w days, 123 or 15.
 pub fn prevalent(log: &Log, w: usize, service: Service) -> bool {
     window(log, w, service).prevails(w)
 }
 
-/// One step of a service on the log that today has joined.
+/// service-7 to service-10: one step of a service, today being in the log.
 pub fn step(state: State, log: &Log, service: Service) -> State {
     match state {
         State::Clear if log.len() == LOG_DAYS && prevalent(log, LOG_DAYS, service) => {

@@ -1,5 +1,5 @@
 //! The two sides of the comparison: the functions of include/meter.h, with
-//! slices in place of pointers and counts.
+//! slices in place of pointers and counts. Rules library-3 to library-10.
 
 use crate::caps;
 use crate::meter::{Account, Answer};
@@ -9,14 +9,14 @@ use crate::statement::{figures_of, run_calls};
 use crate::terms::{Call, Kind, Place};
 use crate::tripfile::{self, CallReader};
 
-/// The call was accepted.
+/// library-3: the call was accepted.
 pub const ACCEPTED: u64 = 1000;
-/// The arguments are of no call.
+/// library-3, library-4: the arguments are of no call.
 pub const BAD_ARGUMENT: u64 = 1001;
-/// `Side::call` alone: no further call.
+/// library-3: of `Side::call` alone, no further call.
 pub const END: u64 = 1002;
 
-/// How many numbers a plan and the answers have.
+/// library-4: how many numbers a plan and the answers have.
 pub const PLAN_NUMBERS: usize = 7;
 pub const USE_NUMBERS: usize = 5;
 pub const AFFORD_NUMBERS: usize = 1;
@@ -32,7 +32,7 @@ pub const CAPS_NUMBERS: usize = 5;
 pub type Writer = fn(&[u64], &[u32], &[u32], &mut [u8], &mut [u64]) -> u64;
 
 /// A meter. Each function returns one of the three numbers above or that of a
-/// refusal. The header says what it does.
+/// refusal (library-3). The header says what it does.
 #[derive(Clone, Copy, Debug)]
 pub struct Side {
     /// Account, plan.
@@ -126,7 +126,7 @@ impl Step {
         }
     }
 
-    /// The call, where place and kind are known ones.
+    /// library-4: the call, where place and kind are known ones.
     pub fn call(self) -> Option<Call> {
         let kind = |number: u64| Kind::ALL.get(usize::try_from(number).ok()?).copied();
         match self {
@@ -181,7 +181,8 @@ impl Kept {
     }
 }
 
-/// A call on the account, none where numbers stand for no account.
+/// library-4, library-5: a call on the account, none where numbers stand for no
+/// account.
 fn on_account(account: Option<&mut Account>, step: Step, answer: &mut [u64]) -> u64 {
     let Some(call) = step.call() else {
         return BAD_ARGUMENT;
@@ -213,7 +214,8 @@ pub fn put_answer(told: Result<Answer, u32>, room: &mut [u64]) -> u64 {
     ACCEPTED
 }
 
-/// A call on the account that numbers stand for; if accepted, they change.
+/// library-6: a call on the account that numbers stand for; if accepted, they
+/// change.
 fn on_numbers(all: &mut [u64], step: Step, answer: &mut [u64]) -> u64 {
     let mut account = account(all);
     let number = on_account(account.as_mut(), step, answer);
@@ -223,8 +225,8 @@ fn on_numbers(all: &mut [u64], step: Step, answer: &mut [u64]) -> u64 {
     number
 }
 
-/// Puts what work gives into the first numbers of the answer, where there is
-/// room; without room nothing is worked out.
+/// library-4: puts what work gives into the first numbers of the answer, where
+/// there is room; without room nothing is worked out.
 fn answered<const N: usize>(
     answer: &mut [u64],
     work: impl FnOnce() -> Result<[u64; N], u32>,
@@ -241,14 +243,15 @@ fn answered<const N: usize>(
     }
 }
 
-/// The plan of seven numbers. No range reaches the last 32-bit word: what is
-/// wider is outside, too.
+/// library-4: the plan of seven numbers. No range reaches the last 32-bit word:
+/// what is wider is outside, too.
 fn plan_of(words: &[u64]) -> Option<Plan> {
     let words: [u64; PLAN_NUMBERS] = words.try_into().ok()?;
     let narrow = |word: u64| u32::try_from(word).unwrap_or(u32::MAX);
     Some(Plan::from_words(words.map(narrow)))
 }
 
+/// library-7: a new account, or the numbers as they were.
 fn open(all: &mut [u64], plan: &[u64]) -> u64 {
     let Some(plan) = plan_of(plan) else {
         return BAD_ARGUMENT;
@@ -276,6 +279,7 @@ fn is_sound(all: &[u64]) -> u64 {
     }
 }
 
+/// library-9: the account keeps its plan.
 fn run(all: &mut [u64], file: &[u8], answer: &mut [u64]) -> u64 {
     answered(answer, || {
         let mut account = account(all).filter(Account::sound).ok_or(0u32)?;
@@ -301,7 +305,8 @@ fn read(file: &[u8], answer: &mut [u64]) -> u64 {
     })
 }
 
-/// Where the section starts is told by where its part of the file stands.
+/// find-1: where the section starts is told by where its part of the file
+/// stands.
 fn find(file: &[u8], kind: u32, answer: &mut [u64]) -> u64 {
     answered(answer, || {
         let part = tripfile::find(file, kind)?;
@@ -326,6 +331,7 @@ fn write(
     })
 }
 
+/// reader-1: the call at a position; reader-2: or none.
 fn call(section: &[u8], position: usize, answer: &mut [u64]) -> u64 {
     let mut reader = CallReader { section, position };
     answered(answer, || {
@@ -334,6 +340,7 @@ fn call(section: &[u8], position: usize, answer: &mut [u64]) -> u64 {
     })
 }
 
+/// library-10: the caps of a day, and the rows read.
 fn caps(day: u64, answer: &mut [u64]) -> u64 {
     answered(answer, || {
         let found = caps::search(day);

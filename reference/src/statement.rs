@@ -1,20 +1,21 @@
-//! The statement: nine lines from the bytes of a trip file, or `file N`.
+//! The statement: nine lines from the bytes of a trip file, or `file N`. Rules
+//! statement-1, statement-2.
 
 use crate::meter::Account;
 use crate::planted::{planted, Wrong};
 use crate::terms::{Call, Kind};
 use crate::tripfile::{self, Trip};
 
-/// day; paid in; credit; home charges; surcharges; L, 0 where none, else one
-/// more than its kB; R; lifetime surcharged kB; refused calls.
+/// statement-1: the figures of the nine lines. That of L is 0 where none, else
+/// one more than its kB.
 pub type Figures = [u64; 9];
 
-/// What the program prints, each line ended by a line feed.
+/// statement-1: what the program prints, each line ended by a line feed.
 pub fn statement(bytes: &[u8]) -> String {
     text(&figures_of(bytes))
 }
 
-/// The figures of a file, or its number.
+/// statement-1: the figures of a file; statement-2: or its number.
 pub fn figures_of(bytes: &[u8]) -> Result<Figures, u32> {
     let (account, refused) = run(&tripfile::read(bytes)?)?;
     Ok(figures(&account, refused))
@@ -60,7 +61,7 @@ pub fn lines(account: &Account, refused: usize) -> String {
     text(&Ok(figures(account, refused)))
 }
 
-/// Figures, or the number of a bad file, in lines.
+/// statement-1, statement-2: figures, or the number of a bad file, in lines.
 pub fn text(outcome: &Result<Figures, u32>) -> String {
     let [day, paid, credit, home, extra, limit, roamed, past, refused] = match outcome {
         Ok(figures) => figures,
@@ -73,7 +74,7 @@ pub fn text(outcome: &Result<Figures, u32>) -> String {
     )
 }
 
-/// L as it is printed.
+/// statement-1: L as it is printed.
 pub fn limit_text(figure: u64) -> String {
     match figure {
         0 => "none".to_string(),

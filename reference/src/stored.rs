@@ -36,7 +36,7 @@ const ZONE: Words = (1, 1);
 const ELSEWHERE: Words = (1, 2);
 const NEXT_DAY: Words = (7, 0);
 
-/// The plan and the calls of 01's example.
+/// statement-1: the plan and the calls of 01's printed example.
 const FERRY_PLAN: [u32; 7] = [PREPAID, 1461, 10_000, 600, 500, 0, 0];
 const FERRY_CALLS: [Words; 6] = [
     (6, 22_000),
@@ -47,8 +47,8 @@ const FERRY_CALLS: [Words; 6] = [
     (5, 1),
 ];
 
-/// A bad file for each number that reading gives, in the order in which it
-/// looks. Both programs are run on them.
+/// order-4: a bad file for each number that reading gives, in the order in
+/// which it looks. Both programs are run on them.
 const BAD_FILES: [&str; 10] = [
     "eleven_bytes",
     "other_start_day",
@@ -159,7 +159,7 @@ fn ferry_and(call: Words) -> Vec<u8> {
     any_file(&FERRY_PLAN, &calls)
 }
 
-/// Bad files: 10 to 13.
+/// refusal-10 to refusal-13: bad files.
 fn bad_tables() -> Vec<StoredCase> {
     let mut longer = ferry();
     longer.extend([0; 4]);
@@ -210,7 +210,7 @@ fn bad_tables() -> Vec<StoredCase> {
     ]
 }
 
-/// Bad files: 14, 15, 1 and 2.
+/// refusal-14, refusal-15, refusal-1, refusal-2: bad files.
 fn bad_bodies() -> Vec<StoredCase> {
     let longer_plan = [&FERRY_PLAN[..], &[0]].concat();
     vec![
@@ -262,7 +262,7 @@ fn altered_plan(mut plan: [u32; 7], words: &[(usize, u32)]) -> Vec<u8> {
     any_file(&plan, &FERRY_CALLS)
 }
 
-/// Document 02, 4/13: 17.
+/// fault-2: prices that are too high.
 fn bad_prices() -> Vec<StoredCase> {
     let with = |index| altered_plan(FERRY_PLAN, &[(index, 1_000_001)]);
     vec![
@@ -284,7 +284,7 @@ fn bad_prices() -> Vec<StoredCase> {
     ]
 }
 
-/// Document 02, 4/13: 18.
+/// fault-3: fees and V out of range.
 fn bad_fees() -> Vec<StoredCase> {
     vec![
         case(
@@ -310,7 +310,7 @@ fn bad_fees() -> Vec<StoredCase> {
     ]
 }
 
-/// Document 02, 4/13: the number that is told first, where two would do.
+/// fault-1 to fault-4: the number that is told first, where two would do.
 fn two_faults() -> Vec<StoredCase> {
     vec![
         case(
@@ -341,9 +341,9 @@ fn two_faults() -> Vec<StoredCase> {
     ]
 }
 
-/// Under a bundle with every field at its limit: a minute and an SMS at home, a
-/// million points each; then zone data up to a GB past V, and all SMS that the
-/// credit pays for.
+/// plan-2 to plan-4: under a bundle with every field at its limit, a minute and
+/// an SMS at home, a million points each; then zone data up to a GB past V, and
+/// all SMS that the credit pays for.
 fn largest_plan() -> Vec<u8> {
     let most = 1_000_000;
     let plan = [BUNDLE, 1461, most, most, most, 10_000_000, 1_073_741_824];
@@ -362,8 +362,9 @@ fn largest_plan() -> Vec<u8> {
     file(plan, &calls)
 }
 
-/// A trip in which a call is refused by each number that a call of a file can
-/// be refused by, and calls of each kind are accepted.
+/// refusal-3 to refusal-9: a trip in which a call is refused by each number
+/// that a call of a file can be refused by, and calls of each kind are
+/// accepted.
 fn every_refusal() -> Vec<u8> {
     let top_up = (6, 10_000_000);
     let mut calls = vec![(2, 1), (6, 0), (6, 10_000_001), top_up];
@@ -435,9 +436,10 @@ fn trips() -> Vec<StoredCase> {
 }
 
 /// From day 181 on: zone days until the service is Surcharged, which is at the
-/// 138th day change (123 to be Warned, 15 to decide), uses that then bear the
-/// surcharge, so much at home that the service is Clear at the next change,
-/// and uses in the zone without a surcharge.
+/// 138th day change (service-7: 123 to be Warned; service-8: 15 to decide),
+/// uses that then bear the surcharge (use-8), so much at home that the service
+/// is Clear at the next change (service-9), and uses in the zone without a
+/// surcharge.
 fn service_trip(daily: &[Words], borne: &[Words], at_home: Words, spared: &[Words]) -> Vec<u8> {
     let mut calls = vec![(6, 10_000_000), ZONE];
     for _ in 0..138 {
@@ -494,7 +496,7 @@ fn off_day_trip(days: &[(&[Words], usize)]) -> Vec<u8> {
     file([PREPAID, 181, 10_000, 600, 500, 0, 0], &calls)
 }
 
-/// Document 02, 1/13: Warned at the 123rd day change, decided at the 138th.
+/// off-1: Warned at the 123rd day change, decided at the 138th.
 fn off_day_trips() -> Vec<StoredCase> {
     let zone: &[Words] = &[ZONE, (2, 100)];
     let home: &[Words] = &[HOME];
@@ -528,16 +530,16 @@ fn off_day_trips() -> Vec<StoredCase> {
     ]
 }
 
-/// A gigabyte in the zone on the day before a row of caps begins, and one on
-/// its first day. L is 0, as the fee is, so that both bear the surcharge.
+/// use-6: a gigabyte in the zone on the day before a row of caps begins, and
+/// one on its first day. L is 0, as the fee is, so that both bear the
+/// surcharge.
 fn row_trip(first: u32) -> Vec<u8> {
     let gb = (2, 1_048_576);
     let calls = [(6, 100_000), ZONE, gb, NEXT_DAY, gb];
     file([UNLIMITED, first - 1, 0, 0, 0, 0, 0], &calls)
 }
 
-/// Document 02, 2/13: every row of caps is found, on both sides of its first
-/// day.
+/// caps-2, rows-1: every row of caps is found, on both sides of its first day.
 fn row_trips() -> Vec<StoredCase> {
     vec![
         case(
@@ -568,8 +570,8 @@ fn row_trips() -> Vec<StoredCase> {
     ]
 }
 
-/// Outgoing records of 1, 29, 30 and 31 seconds at home, in the zone and
-/// elsewhere, at ten points a second.
+/// half-1, half-2: outgoing records of 1, 29, 30 and 31 seconds at home, in the
+/// zone and elsewhere, at ten points a second.
 fn half_minute() -> Vec<u8> {
     let mut calls = vec![(6, 100_000)];
     for place in [HOME, ZONE, ELSEWHERE] {
@@ -578,9 +580,9 @@ fn half_minute() -> Vec<u8> {
     file(FERRY_PLAN, &calls)
 }
 
-/// Elsewhere, 50 seconds less than the limit of refusal 5; one in the zone is
-/// charged 30 of them, and another is refused; then 21 elsewhere are refused,
-/// 20 accepted, and one more refused. As spoken all of them would fit.
+/// half-5: elsewhere, 50 seconds less than the limit of refusal-5; one in the
+/// zone is charged 30 of them, and another is refused; then 21 elsewhere are
+/// refused, 20 accepted, and one more refused. As spoken all of them would fit.
 fn charged_seconds_full() -> Vec<u8> {
     let mut calls = vec![(6, 1000), ELSEWHERE];
     calls.extend([(3, 1_000_000_000); 999]);
@@ -589,7 +591,7 @@ fn charged_seconds_full() -> Vec<u8> {
     file(FERRY_PLAN, &calls)
 }
 
-/// Document 02, 3/13: outgoing zone records are charged half a minute at least.
+/// half-1: outgoing zone records are charged half a minute at least.
 fn half_minute_trips() -> Vec<StoredCase> {
     let credit = [(6, 300), ZONE, (3, 1), (6, 299), (3, 1), HOME, (3, 1)];
     vec![
@@ -619,9 +621,9 @@ fn half_minute_trips() -> Vec<StoredCase> {
     ]
 }
 
-/// A prepaid plan with as many calls as a file can hold: each kind of use on
-/// each day, 150 days in the zone and 150 outside it in turn, so that all
-/// services are Warned, Surcharged and cleared; a top-up every 30 days, and
+/// refusal-14: a prepaid plan with as many calls as a file can hold. Each kind
+/// of use on each day, 150 days in the zone and 150 outside it in turn, so that
+/// all services are Warned, Surcharged and cleared; a top-up every 30 days, and
 /// now and then a use that is refused.
 fn largest() -> Vec<u8> {
     let mut calls = Vec::new();

@@ -1,9 +1,10 @@
-//! The words of document 01: kinds of use, places, services and calls.
+//! Kinds of use, places, services and calls. Rules unit-1 to unit-3, service-1,
+//! list-1, list-5, file-8.
 
-/// Kilobytes in a gigabyte ("Units and caps").
+/// unit-1: kilobytes in a gigabyte.
 pub const GB: u64 = 1_048_576;
 
-/// "Kinds of use: data (kB, MMS included), outgoing seconds, incoming seconds, SMS sent."
+/// unit-2: use in kB, seconds called, seconds received, SMS sent.
 #[derive(Clone, Copy, PartialEq, Eq, Debug)]
 pub enum Kind {
     Data,
@@ -16,7 +17,7 @@ impl Kind {
     pub const ALL: [Kind; 4] = [Kind::Data, Kind::Outgoing, Kind::Incoming, Kind::Sms];
 }
 
-/// "Places: home, zone (EU/EEA abroad), elsewhere."
+/// unit-3: the three places.
 #[derive(Clone, Copy, PartialEq, Eq, Debug)]
 pub enum Place {
     Home,
@@ -28,7 +29,7 @@ impl Place {
     pub const ALL: [Place; 3] = [Place::Home, Place::Zone, Place::Elsewhere];
 }
 
-/// "Services: data, calls, SMS."
+/// service-1: the three services.
 #[derive(Clone, Copy, PartialEq, Eq, Debug)]
 pub enum Service {
     Data,
@@ -39,7 +40,7 @@ pub enum Service {
 impl Service {
     pub const ALL: [Service; 3] = [Service::Data, Service::Calls, Service::Sms];
 
-    /// The service that a kind of use belongs to.
+    /// service-2: the service that a kind of use belongs to.
     pub fn of(kind: Kind) -> Service {
         match kind {
             Kind::Data => Service::Data,
@@ -49,7 +50,7 @@ impl Service {
     }
 }
 
-/// The calls that a list may hold ("Lists of calls and the book").
+/// list-1: the calls that a list may hold.
 #[derive(Clone, Copy, PartialEq, Eq, Debug)]
 pub enum Call {
     Register(Place),
@@ -60,8 +61,8 @@ pub enum Call {
 }
 
 impl Call {
-    /// Code and number of the trip file; none for Afford and for numbers that
-    /// are no 32-bit word.
+    /// file-8: code and number of the trip file; none for Afford and for
+    /// numbers that are no 32-bit word.
     pub fn to_words(self) -> Option<(u32, u32)> {
         match self {
             Call::Register(place) => Some((1, place as u32)),
@@ -72,7 +73,7 @@ impl Call {
         }
     }
 
-    /// The call of a code and number; none where refusal 15 holds.
+    /// file-8: the call of a code and number; none where refusal-15 holds.
     pub fn from_words(code: u32, number: u32) -> Option<Call> {
         match code {
             1 => Some(Call::Register(*Place::ALL.get(number as usize)?)),
@@ -83,7 +84,7 @@ impl Call {
         }
     }
 
-    /// Accepted registrations, top-ups and day changes are the cuts.
+    /// list-5: whether the call is a cut where it is accepted.
     pub fn is_cut_call(self) -> bool {
         matches!(self, Call::Register(_) | Call::TopUp(_) | Call::NextDay)
     }

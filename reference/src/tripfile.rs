@@ -1,15 +1,22 @@
 //! The trip file: reading, finding a section, the reader of calls, writing.
+//! Rules file-1 to file-9, find-1, reader-1, reader-2, write-1, write-2,
+//! refusal-10 to refusal-16.
 
 use crate::plan::Plan;
 use crate::planted::{planted, Wrong};
 use crate::terms::Call;
 
+/// file-7: the plan's kind.
 pub const PLAN_KIND: u32 = 1;
+/// file-8: the kind of the calls.
 pub const CALLS_KIND: u32 = 2;
+/// refusal-10: the most bytes of a file.
 pub const MAX_FILE: usize = 65_536;
+/// refusal-14: the most calls to write.
 pub const MAX_CALLS: usize = 8_184;
 /// File length, sum word, count, two entries and the plan body.
 pub const BEFORE_CALLS: usize = 64;
+/// file-7: the bytes of a plan.
 const PLAN_BYTES: usize = 28;
 
 /// A file read whole: the plan and the calls as code and number.
@@ -19,24 +26,25 @@ pub struct Trip {
     pub calls: Vec<(u32, u32)>,
 }
 
-/// One entry of the table; start and length in bytes.
+/// file-5: one entry of the table; start and length in bytes.
 struct Entry {
     kind: u32,
     start: u64,
     length: u64,
 }
 
+/// file-1: the word from a byte on.
 fn word(bytes: &[u8], at: usize) -> u32 {
     u32::from_le_bytes([bytes[at], bytes[at + 1], bytes[at + 2], bytes[at + 3]])
 }
 
-/// The wrapping 32-bit sum of all words.
+/// file-3: all words added up, wrapping.
 pub fn word_sum(bytes: &[u8]) -> u32 {
     let words = bytes.chunks_exact(4).map(|chunk| word(chunk, 0));
     words.fold(0, u32::wrapping_add)
 }
 
-/// 10: length under 12, over 65,536, not a multiple of 4 or not the first word.
+/// refusal-10: the length, by itself and against the first word (file-2).
 fn check_length(bytes: &[u8]) -> Result<(), u32> {
     let length = bytes.len();
     let fits = (12..=MAX_FILE).contains(&length) && length.is_multiple_of(4);
@@ -47,7 +55,8 @@ fn check_length(bytes: &[u8]) -> Result<(), u32> {
     }
 }
 
-/// 10, 11, 12: the table of a file, its rules checked with exact sums.
+/// refusal-10 to refusal-12: the table of a file, its rules (file-4 to file-6)
+/// checked with exact sums.
 fn table(bytes: &[u8]) -> Result<Vec<Entry>, u32> {
     check_length(bytes)?;
     if word_sum(bytes) != 0 && !planted(Wrong::SumNotChecked) {
@@ -79,7 +88,7 @@ fn entry(bytes: &[u8], at: usize) -> Entry {
     }
 }
 
-/// 13: the body of the kind, if it is there just once.
+/// refusal-13: the body of the kind, neither missing nor doubled.
 fn only<'a>(bytes: &'a [u8], entries: &[Entry], kind: u32) -> Result<&'a [u8], u32> {
     let mut found = entries.iter().filter(|entry| entry.kind == kind);
     let lenient = planted(Wrong::OtherKindsTwice) && kind > CALLS_KIND;
@@ -91,13 +100,14 @@ fn only<'a>(bytes: &'a [u8], entries: &[Entry], kind: u32) -> Result<&'a [u8], u
     }
 }
 
-/// Finding a section: 10, 11, 12, then 13 if that kind isn't there just once.
-/// The answer is that part of the caller's file itself.
+/// Finding a section: 10, 11, 12, 13 (order-4). find-1: it is a part of the
+/// caller's own file.
 pub fn find(bytes: &[u8], kind: u32) -> Result<&[u8], u32> {
     only(bytes, &table(bytes)?, kind)
 }
 
-/// Reading: 10, 11, 12, 13, 14, 15, then 1, 17, 18, 2.
+/// Reading: 10 to 15, then 1, 17, 18, 2 (order-4). file-9: other kinds are
+/// passed over.
 pub fn read(bytes: &[u8]) -> Result<Trip, u32> {
     let entries = table(bytes)?;
     let plan_body = only(bytes, &entries, PLAN_KIND)?;
@@ -112,8 +122,7 @@ pub fn read(bytes: &[u8]) -> Result<Trip, u32> {
     Ok(Trip { plan, calls })
 }
 
-/// 15: a code outside 1 to 7, a register number above 2 or a next-day number
-/// that isn't 0.
+/// refusal-15: codes, and the numbers of registrations and day changes.
 fn check_calls(mut calls: impl Iterator<Item = (u32, u32)>) -> Result<(), u32> {
     if calls.all(|(code, number)| Call::from_words(code, number).is_some()) {
         Ok(())
@@ -122,8 +131,8 @@ fn check_calls(mut calls: impl Iterator<Item = (u32, u32)>) -> Result<(), u32> {
     }
 }
 
-/// The reader that refers to a calls section. It hands out the next 8 bytes
-/// as code and number, unchecked, or none where fewer remain.
+/// reader-1: refers to a calls section, and hands out code and number of each
+/// call as they are; reader-2: none with fewer than 8 bytes left.
 #[derive(Clone, Debug)]
 pub struct CallReader<'a> {
     pub section: &'a [u8],
@@ -152,9 +161,9 @@ impl Iterator for CallReader<'_> {
     }
 }
 
-/// Writing: 1, 17, 18, 2; 14 no calls, over 8,184, or unequal counts; 15; 16
-/// buffer too short. Answers the file's length; bytes after the file stay, and a
-/// refusal writes nothing.
+/// Writing: 1, 17, 18, 2, then 14, 15, 16 (order-4). Answers the file's length;
+/// what is behind the file stays (write-2), and a refusal writes nothing
+/// (order-2).
 pub fn write(plan: &Plan, codes: &[u32], numbers: &[u32], buf: &mut [u8]) -> Result<usize, u32> {
     let calls = codes.iter().copied().zip(numbers.iter().copied());
     if planted(Wrong::CallsBeforePlan) {
@@ -182,7 +191,7 @@ pub fn write(plan: &Plan, codes: &[u32], numbers: &[u32], buf: &mut [u8]) -> Res
     Ok(length)
 }
 
-/// Sections 1 and 2 in this order; the sum word is solved for last.
+/// write-1: plan, then calls; file-3: the sum word is solved for last.
 fn fill(file: &mut [u8], plan: &Plan, codes: &[u32], numbers: &[u32]) {
     let calls_bytes = 8 * codes.len() as u32;
     let header = [file.len() as u32, 0, 2];

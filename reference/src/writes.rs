@@ -1,5 +1,6 @@
 //! What the writer is asked to write: what a file was read as, and random
 //! plans, calls and buffers with none, one or several reasons to decline them.
+//! Rules order-4, refusal-14 to refusal-16, library-4.
 
 use crate::faults::bad_plan;
 use crate::generate::any_plan;
@@ -43,8 +44,8 @@ impl WriteCase {
 
     /// A random write. The plan is bad in two of five cases, and each of the
     /// other reasons is there in one of five, so that all sets of them arise;
-    /// the first in 01's order counts. In one of twenty the arguments are
-    /// of no write, which comes before all reasons.
+    /// the first in order-4 counts. In one of twenty the arguments are of no
+    /// write, which comes before all reasons (library-4).
     pub fn random(rng: &mut Rng) -> WriteCase {
         let mut plan = any_plan(rng).to_words().map(u64::from).to_vec();
         let (mut codes, mut numbers) = right_calls(rng);
@@ -86,13 +87,13 @@ impl WriteCase {
         (side.write)(&self.plan, &self.codes, &self.numbers, buffer, answer)
     }
 
-    /// Whether 14 would decline it under a good plan.
+    /// refusal-14: whether it holds, given a good plan.
     pub fn has_wrong_count(&self) -> bool {
         let count = self.codes.len();
         count != self.numbers.len() || !(1..=MAX_CALLS).contains(&count)
     }
 
-    /// Whether 15 would, the counts aside.
+    /// refusal-15: whether it holds, the counts aside.
     pub fn has_wrong_call(&self) -> bool {
         let mut calls = self.codes.iter().zip(&self.numbers);
         calls.any(|(code, number)| Call::from_words(*code, *number).is_none())
@@ -110,8 +111,8 @@ impl WriteCase {
     }
 }
 
-/// At times arguments of no write: another count of the plan's numbers, or no
-/// room for the answer. Answers how many numbers are lent for it.
+/// library-4: at times arguments of no write, another count of the plan's
+/// numbers or no room for the answer. Answers how many numbers are lent for it.
 fn no_write(rng: &mut Rng, plan: &mut Vec<u64>) -> usize {
     match rng.below(60) {
         0 => return 0,
@@ -136,7 +137,8 @@ fn room(rng: &mut Rng, need: usize, short: bool) -> usize {
     }
 }
 
-/// Some calls that keep rule 15, at times as many as a file can hold.
+/// Some calls that keep refusal-15's rules, at times as many as a file can
+/// hold.
 fn right_calls(rng: &mut Rng) -> (Vec<u32>, Vec<u32>) {
     let count = match rng.below(50) {
         0 => MAX_CALLS as u64,
@@ -155,7 +157,7 @@ fn right_call(rng: &mut Rng) -> (u32, u32) {
     (code, number)
 }
 
-/// 14: no calls, one more than a file can hold, or unequal counts.
+/// refusal-14: no calls, one more than a file can hold, or unequal counts.
 fn wrong_count(rng: &mut Rng, codes: &mut Vec<u32>, numbers: &mut Vec<u32>) {
     match rng.below(6) {
         0 => {
@@ -175,7 +177,7 @@ fn wrong_count(rng: &mut Rng, codes: &mut Vec<u32>, numbers: &mut Vec<u32>) {
     }
 }
 
-/// 15: one call with a bad code or number.
+/// refusal-15: one call with a bad code or number.
 fn wrong_call(rng: &mut Rng, codes: &mut [u32], numbers: &mut [u32]) {
     let at = rng.below(codes.len() as u64) as usize;
     let bad = [(0, 0), (8, 0), (u32::MAX, 1), (1, 3), (1, 1 << 31), (7, 1)];

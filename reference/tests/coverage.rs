@@ -1,5 +1,6 @@
 //! Events mean what they say: lists made by hand that come to them, and lists
-//! close by that do not.
+//! close by that do not. Rules caps-2, month-3, day-2, service-3 to service-10,
+//! afford-1, order-3, refusal-12, sound-1 to sound-11.
 
 mod common;
 use common::*;
@@ -25,14 +26,15 @@ fn resting(plan: reference::plan::Plan, days: u32) -> reference::meter::Account 
     account
 }
 
+/// use-6: a surcharged unit bears the cap of its day.
 #[test]
 fn caps_that_change_under_a_surcharge() {
-    // Day 1095 has an SMS cap of 40, day 1096 one of 30.
+    // caps-1: day 1095 has an SMS cap of 40, day 1096 one of 30.
     let mut account = resting(prepaid(1095, 0, 0, 0), 0);
     account.states[Service::Sms as usize] = State::Surcharged;
     let name = "SMS surcharged under two caps";
     assert_eq!(events_of(&account, &[zone(), SMS, SMS]).count(name), 0);
-    // The one logged day is a zone day: the service stays Surcharged.
+    // service-9: the one logged day is a zone day, so it stays Surcharged.
     let events = events_of(&account, &[zone(), SMS, Call::NextDay, SMS]);
     assert_eq!(events.count(name), 1);
     assert_eq!(events.count("SMS used while surcharged"), 1);
@@ -40,6 +42,7 @@ fn caps_that_change_under_a_surcharge() {
     assert_eq!(events.count(name), 0);
 }
 
+/// mistake-4: a cap change leaves a prepaid L; topup-2 sets it.
 #[test]
 fn a_prepaid_limit_after_a_cap_change() {
     let name = "prepaid zone data after a cap change, without a new L";
@@ -62,6 +65,7 @@ fn a_prepaid_limit_after_a_cap_change() {
     );
 }
 
+/// day-2: what days count as.
 #[test]
 fn days_by_their_marks() {
     let account = resting(prepaid(1000, 0, 0, 0), 0);
@@ -90,7 +94,7 @@ fn days_by_their_marks() {
     assert_eq!(events_of(&account, &used).count(name), 0);
 }
 
-/// 2024 and 2028 are leap years: 29 February is day 789 and day 2250.
+/// month-3: 2024 and 2028 are leap years, 29 February is day 789 and day 2250.
 #[test]
 fn the_end_of_february() {
     let begins = "29 February begins";
@@ -132,6 +136,8 @@ fn prevalent(change: impl Fn(usize, &mut Day)) -> reference::meter::Account {
     account
 }
 
+/// service-3, service-4: home incoming seconds are no units, and equal units
+/// are not enough.
 #[test]
 fn units_that_decide() {
     let tipped = "calls prevail, and would not with home incoming seconds";
@@ -147,7 +153,7 @@ fn units_that_decide() {
     assert_eq!((events.count(equal), events.count("calls warned")), (1, 0));
 }
 
-/// 61 zone days, 61 home days and one elsewhere: today is a zone day.
+/// off-1: 61 zone days with today, 60 home days, one elsewhere and one off.
 #[test]
 fn an_elsewhere_day_that_decides() {
     let name = "an elsewhere day decides over 123";
@@ -169,8 +175,8 @@ fn an_elsewhere_day_that_decides() {
     assert_eq!((events.count(name), events.count("calls warned")), (0, 0));
 }
 
-/// Cleared at the 15th change for its last days, and warned at the next one for
-/// all 123.
+/// service-8: cleared at the 15th change for its last days, and service-7,
+/// service-10: warned at the next one for all 123.
 #[test]
 fn warned_again_at_once() {
     let name = "calls clear at the 15th change, warned at the next";
@@ -187,11 +193,13 @@ fn warned_again_at_once() {
     assert_eq!((events.count(name), events.count("calls warned")), (1, 1));
 }
 
+/// afford-1: past V, past L, or past both.
 #[test]
 fn what_afford_reaches_across() {
     let mut account = open(bundle(1461, 1_000_000, 20_000, 4 * GB as u32));
     run(&mut account, &[Call::TopUp(10_000_000), zone()]);
-    // Open: 20,000 x 1,048,576 is under 11,000 x 4 GB; L is 3,813,003 kB.
+    // plan-7: open, as 20,000 x 1,048,576 is under 11,000 x 4 GB; limit-5: L is
+    // 3,813,003 kB.
     assert_eq!(account.l, Some(3_813_003));
     let names = [
         "afford across V",
@@ -211,6 +219,7 @@ fn what_afford_reaches_across() {
     assert_eq!(counts(&account), [0, 0, 0]);
 }
 
+/// order-3: 3 before 4, 5 before 6, 7 before 8.
 #[test]
 fn refusals_by_their_order() {
     let account = resting(prepaid(1461, 0, 0, 0), 0);
@@ -230,7 +239,8 @@ fn refusals_by_their_order() {
     assert_eq!(events_of(&account, &[INCOMING]).count("use 4"), 0);
 }
 
-/// The table of a file with plan and calls, one entry changed.
+/// refusal-12, file-6: the table of a file with plan and calls, one entry
+/// changed.
 #[test]
 fn tables_and_their_causes() {
     let plan = to_bytes(&[0, 1461, 0, 0, 0, 0, 0]);
@@ -263,7 +273,8 @@ fn tables_and_their_causes() {
     assert_eq!(causes::of_12(&bytes), [uneven, short]);
 }
 
-/// The conditions by themselves, against numbers broken by hand.
+/// sound-1 to sound-11: the conditions by themselves, against numbers broken by
+/// hand.
 #[test]
 fn conditions_of_soundness() {
     let sound = numbers(&resting(bundle(700, 5000, 1000, 100_000), 40));

@@ -1,4 +1,6 @@
-//! Open points of the paper, as docs/DECISIONS.md decides them.
+//! Open points, as docs/DECISIONS.md decides them. Rules limit-1 to limit-7,
+//! register-1, register-2, topup-2, use-1 to use-15, day-1 to day-3, service-2
+//! to service-10, off-1 to off-3.
 
 mod common;
 use common::*;
@@ -12,6 +14,7 @@ fn next_days(account: &mut Account, count: usize) {
     }
 }
 
+/// limit-7, mistake-4: a prepaid L and R stay.
 #[test]
 fn a_prepaid_limit_stays_over_months_and_cap_changes() {
     let mut account = open(prepaid(1460, 0, 0, 0));
@@ -20,6 +23,7 @@ fn a_prepaid_limit_stays_over_months_and_cap_changes() {
     assert_eq!((account.day, account.l, account.r), (1461, Some(GB), 7));
 }
 
+/// limit-7: a bundle's L by the new cap, H and R 0.
 #[test]
 fn a_bundle_turns_with_the_new_days_cap() {
     let mut account = open(bundle(1450, 0, 12_000, GB as u32));
@@ -34,6 +38,7 @@ fn a_bundle_turns_with_the_new_days_cap() {
     assert_eq!((account.h, account.r), (0, 0));
 }
 
+/// register-2, mistake-5: it marks, and L and R stay.
 #[test]
 fn registering_again_in_the_zone_sets_nothing() {
     let mut account = open(prepaid(1460, 10_000, 0, 0));
@@ -45,6 +50,7 @@ fn registering_again_in_the_zone_sets_nothing() {
     assert_eq!(account.today.marks, [false, true, false]);
 }
 
+/// limit-4, register-2.
 #[test]
 fn leaving_keeps_l_and_r_and_entering_renews_them() {
     let mut account = open(prepaid(1461, 10_000, 0, 0));
@@ -58,6 +64,7 @@ fn leaving_keeps_l_and_r_and_entering_renews_them() {
     assert_eq!((account.l, account.r), (Some(6000 * GB / 11_000), 0));
 }
 
+/// topup-2, mistake-2: from the credit; topup-1: no mark.
 #[test]
 fn top_ups_move_the_limit_of_a_prepaid_account_in_the_zone_only() {
     let mut account = open(prepaid(1461, 0, 0, 0));
@@ -76,6 +83,7 @@ fn top_ups_move_the_limit_of_a_prepaid_account_in_the_zone_only() {
     assert_eq!((other.l, other.r), (Some(2 * GB), 9));
 }
 
+/// day-3: no marks at first; register-1, use-1: what marks.
 #[test]
 fn a_day_without_registration_or_use_is_off() {
     let mut account = open(prepaid(1461, 0, 0, 0));
@@ -88,6 +96,7 @@ fn a_day_without_registration_or_use_is_off() {
     assert_eq!(account.today.marks, [false, true, false]);
 }
 
+/// limit-1: nothing is past none, everything past 0.
 #[test]
 fn limits_none_and_0() {
     let mut closed = open(bundle(1461, 0, 11_000, GB as u32));
@@ -100,6 +109,7 @@ fn limits_none_and_0() {
     assert_eq!(free.apply(data(GB)), used(0, 11_000, GB, GB, false));
 }
 
+/// use-15: a notice at L; use-7: a record on both sides of it.
 #[test]
 fn notice_at_exactly_l_and_split_records() {
     let plan = unlimited(1461, 11_000);
@@ -124,6 +134,7 @@ fn notice_at_exactly_l_and_split_records() {
     );
 }
 
+/// use-4, use-7: in one record; use-9: once.
 #[test]
 fn v_and_l_crossed_in_one_record() {
     let mut account = open(bundle(1461, 1000, 11_000, 3 * GB as u32));
@@ -135,6 +146,7 @@ fn v_and_l_crossed_in_one_record() {
     assert_eq!(account.apply(data(GB)), used(1000, 11_000, GB, GB, false));
 }
 
+/// limit-2: H; limit-1: R; use-1: lifetime kB.
 #[test]
 fn h_grows_for_bundles_at_home_and_in_the_zone() {
     for (plan, wanted) in [
@@ -149,6 +161,7 @@ fn h_grows_for_bundles_at_home_and_in_the_zone() {
     }
 }
 
+/// use-2, use-5, use-10.
 #[test]
 fn incoming_and_elsewhere_bear_no_home_price() {
     let mut account = open(prepaid(1461, 1000, 1000, 1000));
@@ -165,6 +178,7 @@ fn incoming_and_elsewhere_bear_no_home_price() {
     assert_eq!(account.today.marks, [true, false, true]);
 }
 
+/// use-8, use-6; use-12: divided over the records.
 #[test]
 fn surcharged_services_bear_the_caps_of_the_day() {
     let mut account = open(unlimited(1461, 11_000));
@@ -205,6 +219,7 @@ fn day_of(marks: [bool; 3], kind: Kind, units: [u64; 3]) -> Day {
     day
 }
 
+/// service-2, service-3, day-2.
 #[test]
 fn units_count_whatever_the_day_counts_as() {
     let zone_day = day_of([false, true, false], Kind::Sms, [0, 1, 0]);
@@ -218,6 +233,7 @@ fn units_count_whatever_the_day_counts_as() {
     assert!(prevalent(&log, 123, Service::Sms));
 }
 
+/// service-2, service-3: of calls.
 #[test]
 fn units_of_calls_by_place() {
     let mut day = Day::default();
@@ -227,6 +243,7 @@ fn units_of_calls_by_place() {
     assert_eq!(day.other_units(Service::Calls), 100_101);
 }
 
+/// service-7, service-8, service-10.
 #[test]
 fn warned_counts_and_one_step_a_day() {
     let zone_day = day_of([false, true, false], Kind::Data, [0, 1, 0]);
@@ -237,7 +254,8 @@ fn warned_counts_and_one_step_a_day() {
         assert_eq!(state, State::Warned(count));
     }
     assert_eq!(step(state, &log, Service::Data), State::Surcharged);
-    // Prevalent over 123 days, not over 15: clear now, warned a step later.
+    // service-10: prevalent over 123 days, not over 15: clear now, warned a
+    // step later.
     let mut late = log.clone();
     late.iter_mut().take(8).for_each(|day| day.marks[0] = true);
     assert_eq!(step(state, &late, Service::Data), State::Clear);
@@ -248,6 +266,7 @@ fn warned_counts_and_one_step_a_day() {
     );
 }
 
+/// service-5: all days there are; service-4: 0 units do not prevail.
 #[test]
 fn short_logs_and_no_units() {
     let zone_day = day_of([false, true, false], Kind::Data, [0, 1, 0]);
@@ -267,6 +286,7 @@ fn short_logs_and_no_units() {
     assert!(!prevalent(&log, 15, Service::Data), "no day");
 }
 
+/// off-1, off-3: off days count for neither side.
 #[test]
 fn a_month_in_a_drawer_counts_neither_way() {
     // 63 days in the zone, a month off, 30 days at home.
@@ -291,6 +311,7 @@ fn a_month_in_a_drawer_counts_neither_way() {
     assert_eq!(state, State::Clear, "a home day joined: 31 against 31");
 }
 
+/// day-1: 123 days; sound-10.
 #[test]
 fn the_log_drops_its_oldest_day() {
     let mut account = open(prepaid(181, 0, 0, 0));

@@ -1,6 +1,6 @@
 //! The comparison itself: the meter agrees with itself and comes to every
 //! event, and the cases are what they are made for. Meters that go wrong in one
-//! point are in wrong_sides.rs.
+//! point are in wrong_sides.rs. Rules promise-3, library-3.
 
 use reference::accounts::edges::at_edge;
 use reference::accounts::{made, reached};
@@ -29,8 +29,8 @@ fn compared(seeds: u64) -> Differ {
     differ
 }
 
-/// Some more than a tenth of a full run comes to every event, and to none that
-/// the list lacks.
+/// promise-3: some more than a tenth of a full run comes to every event, and to
+/// none that the list lacks.
 #[test]
 fn a_part_of_a_full_run_comes_to_every_event() {
     let differ = compared(3000);
@@ -68,7 +68,7 @@ fn events_of_one_side_do_not_count() {
     assert_eq!(ours.without(&["read 10"]).count("read 10"), 0);
 }
 
-/// Random writes return what they were made for.
+/// order-4: random writes return what they were made for.
 #[test]
 fn writes_are_what_they_are_made_for() {
     let mut rng = Rng::new(5);
@@ -85,7 +85,7 @@ fn writes_are_what_they_are_made_for() {
     assert_eq!(Vec::from_iter(seen), all);
 }
 
-/// Bad plans get the number of what is wrong with them.
+/// fault-1 to fault-4: bad plans get the number of what is wrong with them.
 #[test]
 fn bad_plans_are_what_they_are_made_for() {
     let mut rng = Rng::new(17);
@@ -97,8 +97,8 @@ fn bad_plans_are_what_they_are_made_for() {
     }
 }
 
-/// Accounts at an edge are sound; past it they break that condition alone, by
-/// one.
+/// sound-1 to sound-11: accounts at an edge are sound; past it they break that
+/// condition alone, by one.
 #[test]
 fn accounts_at_the_edges_are_what_they_are_made_for() {
     let mut rng = Rng::new(29);
@@ -134,7 +134,7 @@ fn accounts_are_sound() {
     }
 }
 
-/// A number that a function never returns is no event.
+/// library-3: a number that a function never returns is no event.
 #[test]
 fn unknown_returns_are_failures() {
     let mut events = TripEvents::default();

@@ -1,4 +1,6 @@
-//! Published examples, by their E-numbers, with the cap as an argument.
+//! Published examples, by their E-numbers, with the cap as an argument. Rules
+//! plan-7, limit-5, limit-6, use-4, use-7, use-11, use-12, register-2, topup-2,
+//! service-4 to service-8, half-1.
 
 mod common;
 use common::*;
@@ -27,6 +29,7 @@ fn take(account: &mut Account, kb: u64) -> Result<Answer, u32> {
     account.use_units_at(Kind::Data, kb, &LEK)
 }
 
+/// plan-7, limit-5, limit-6.
 #[test]
 fn e1_to_e5_bundles_at_cap_77000() {
     assert!(limit(100_000, 3, 77_000).is_some(), "E1");
@@ -40,6 +43,7 @@ fn e1_to_e5_bundles_at_cap_77000() {
     assert_eq!(2_723_574 - 2 * GB, 626_422, "E4");
 }
 
+/// plan-7, limit-5, limit-6.
 #[test]
 fn e6_to_e12_bundles_at_cap_970() {
     assert_eq!(limit(1000, 3, 970), Some(2_162_012), "E6");
@@ -53,6 +57,7 @@ fn e6_to_e12_bundles_at_cap_970() {
     assert_eq!(mb.limit(970), Some(1_297_207), "E12 with 1000 MB");
 }
 
+/// use-4: past V; use-7: past L.
 #[test]
 fn e9_run_home_price_between_v_and_l() {
     let mut account = in_zone(bundle(1461, 500, 1000, 2 * GB as u32), 10_000);
@@ -62,6 +67,7 @@ fn e9_run_home_price_between_v_and_l() {
     assert_eq!(take(&mut account, GB), used(500, 970, GB, GB, false));
 }
 
+/// use-7: past L; use-4: past V.
 #[test]
 fn e10_run_surcharge_alone_between_l_and_v() {
     let mut account = in_zone(bundle(1461, 500, 2000, 7 * GB as u32), 10_000);
@@ -75,6 +81,7 @@ fn e10_run_surcharge_alone_between_l_and_v() {
     assert_eq!(take(&mut account, GB), used(500, 970, GB, GB, false));
 }
 
+/// limit-2, use-4: kB at home count in H, too.
 #[test]
 fn e5_and_e13_volume_partly_used_at_home() {
     let mut account = Account::open_at(bundle(1461, 500, 1455, 5 * GB as u32), &LEK).unwrap();
@@ -88,6 +95,7 @@ fn e5_and_e13_volume_partly_used_at_home() {
     assert_eq!(take(&mut account, GB), used(500, 970, GB, GB, false));
 }
 
+/// register-2, use-3, refusal-6, afford-1.
 #[test]
 fn e14_prepaid_credit_ends_before_the_limit() {
     assert_eq!(prepaid_limit(1000, 970), 1_081_006);
@@ -102,6 +110,7 @@ fn e14_prepaid_credit_ends_before_the_limit() {
     assert_eq!(take(&mut account, 1), Err(6));
 }
 
+/// register-2, use-7, use-13, afford-1.
 #[test]
 fn e15_to_e17_prepaid_past_the_limit() {
     let mut at_home = open(prepaid(1461, 500, 0, 0));
@@ -130,11 +139,13 @@ fn e15_to_e17_prepaid_past_the_limit() {
     assert_eq!(take(&mut account, GB), Err(6), "E17");
     account.register_at(Place::Home, &LEK).unwrap();
     account.top_up_at(500, &LEK).unwrap();
-    // Topped up at home, so the old L holds; the zone is entered by hand.
+    // topup-2: topped up at home, so the old L holds; the zone is entered by
+    // hand.
     account.place = Some(Place::Zone);
     assert_eq!(take(&mut account, GB), used(500, 970, GB, GB, false), "E17");
 }
 
+/// register-2.
 #[test]
 fn e18_credits_of_500_and_1000() {
     assert_eq!(prepaid_limit(500, 970), 540_503);
@@ -150,6 +161,7 @@ fn spend(account: &mut Account, days: usize, place: Place) {
     }
 }
 
+/// service-7, service-8.
 #[test]
 fn e35_warned_on_304_and_surcharged_on_319() {
     let mut account = open(unlimited(181, 100_000));
@@ -164,6 +176,7 @@ fn e35_warned_on_304_and_surcharged_on_319() {
     assert_eq!(account.states[1..], [State::Clear; 2]);
 }
 
+/// service-4, service-7.
 #[test]
 fn e32_a_run_of_61_or_62_zone_days() {
     for (zone_days, wanted) in [(61, State::Clear), (62, State::Warned(0))] {
@@ -177,6 +190,7 @@ fn e32_a_run_of_61_or_62_zone_days() {
     }
 }
 
+/// service-4, service-8.
 #[test]
 fn e33_a_run_of_7_or_8_zone_days_after_the_warning() {
     for (zone_days, wanted) in [(7, State::Clear), (8, State::Surcharged)] {
@@ -191,8 +205,8 @@ fn e33_a_run_of_7_or_8_zone_days_after_the_warning() {
     }
 }
 
-/// The source has 0.0275 euro a minute with VAT, which is 220 points without:
-/// the cap of 2024, days 730 to 1095. There is no home price here.
+/// half-1: the source has 0.0275 euro a minute with VAT, which is 220 points
+/// without: the cap of 2024, days 730 to 1095. There is no home price here.
 #[test]
 fn e37_the_first_30_seconds_cost_110_points() {
     let mut account = open(prepaid(730, 0, 0, 0));
@@ -203,8 +217,8 @@ fn e37_the_first_30_seconds_cost_110_points() {
         assert_eq!(got, used(0, 110, 30, 30, false), "E37, {n} s");
     }
     assert_eq!(account.extra, 30 * 110);
-    // D12: after them by the second, though the source's first minute goes by
-    // half minutes; 31 x 220 / 60 = 113.
+    // half-1, scope-2: after them by the second, though the source's first
+    // minute goes by half minutes; 31 x 220 / 60 = 113.
     let got = account.use_units(Kind::Outgoing, 31);
     assert_eq!(got, used(0, 113, 31, 31, false));
 }

@@ -1,5 +1,6 @@
 //! The explanation of a trip file, and the words of its refusals. The texts
-//! here were written by hand from 01 and 02.
+//! here were written by hand from the rules, among them file-8, limit-6,
+//! limit-7, half-1, order-3, order-4.
 
 mod common;
 use common::*;
@@ -7,6 +8,7 @@ use reference::explain::{explained, sentences, with_words};
 use reference::stored::{cases, named, sentences_table};
 use reference::tripfile::read;
 
+/// 01's printed example (statement-1).
 const FERRY: &str = "\
 open: accepted
     day 1461, place none, credit 0, limit 0, roamed 0
@@ -24,7 +26,7 @@ open: accepted
     day 1461, place zone, credit 1500, limit 2097152, roamed 2097153
 ";
 
-/// Under a bundle that is not open.
+/// limit-6: under a bundle that is not open.
 const BUNDLE_TRIP: &str = "\
 open: accepted
     day 1460, place none, credit 0, limit none, roamed 0
@@ -57,8 +59,8 @@ fn the_example_call_by_call() {
     assert_eq!(explained(&named("ferry").bytes), FERRY);
 }
 
-/// Every name of a call, every place, a short zone call, a limit of none, and a
-/// month's first day, on which R is cleared.
+/// Every name of a call, every place, a short zone call (half-1), a limit of
+/// none (limit-6), and a month's first day, on which R is cleared (limit-7).
 #[test]
 fn names_places_and_units() {
     let plan = bundle(1460, 0, 13_000, 1_048_576);
@@ -78,6 +80,7 @@ fn names_places_and_units() {
     assert_eq!(explained(&file(&plan, &calls)), BUNDLE_TRIP);
 }
 
+/// As a statement is (statement-2).
 #[test]
 fn a_bad_file_is_one_line() {
     for case in cases() {
@@ -103,8 +106,8 @@ fn words_follow_refusals_alone() {
     assert_eq!(with_words("file 2\n", table), "file 2\n");
 }
 
-/// Open, the calls, reading and writing answer the numbers from 0 to 18, and
-/// each has its sentence.
+/// order-3, order-4: the numbers of all operations are 0 to 18, and each has
+/// its sentence.
 #[test]
 fn every_number_has_a_sentence() {
     let table = sentences_table();

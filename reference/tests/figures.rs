@@ -1,5 +1,7 @@
-//! The eleven figures marked * in 01, the windows with off days of 02, 1/13, the
-//! table of caps, the calendar and the statement that 01 prints.
+//! The eleven marked figures (figure-1 to figure-5), windows with off days
+//! (off-1, off-2), the table of caps (caps-1 to caps-3, rows-1 to rows-3), the
+//! calendar (month-1 to month-3) and the printed statement (statement-1,
+//! statement-2).
 
 mod common;
 use common::*;
@@ -11,12 +13,14 @@ use reference::services::{prevalent, Day, Log};
 use reference::statement::statement;
 use reference::terms::Service;
 
+/// figure-1, limit-5.
 #[test]
 fn figure_1_and_2_limits_at_cap_77000() {
     assert_eq!(unlimited(1461, 900_000).limit(77_000), Some(24_512_166));
     assert_eq!(unlimited(1461, 100_000).limit(77_000), Some(2_723_574));
 }
 
+/// figure-2, plan-7.
 #[test]
 fn figure_3_4_5_open_bundles_at_cap_77000() {
     assert!(bundle(1461, 0, 100_000, 3_145_728).is_open(77_000));
@@ -24,6 +28,7 @@ fn figure_3_4_5_open_bundles_at_cap_77000() {
     assert!(!bundle(1461, 0, 77_000, 1_048_576).is_open(77_000));
 }
 
+/// figure-3: L by register-2, its cost by use-11.
 #[test]
 fn figure_6_and_7_prepaid_credit_2000() {
     let limit = prepaid_limit(2000, 970);
@@ -49,6 +54,7 @@ fn log_of(zone_days: usize, days: usize, home_kb: u64) -> Log {
     log
 }
 
+/// figure-4, service-4, off-4.
 #[test]
 fn figure_8_and_9_prevalence_over_123_days() {
     assert!(!prevalent(&log_of(61, 123, 0), 123, Service::Data));
@@ -56,6 +62,7 @@ fn figure_8_and_9_prevalence_over_123_days() {
     assert!(!prevalent(&log_of(62, 123, 620), 123, Service::Data));
 }
 
+/// service-4, off-4: 8 zone days of 15.
 #[test]
 fn e33_prevalence_over_15_days() {
     assert!(!prevalent(&log_of(7, 123, 0), 15, Service::Data));
@@ -72,6 +79,7 @@ fn log_with_off_days(zone_days: usize, home_days: usize, off_days: usize) -> Log
     log
 }
 
+/// off-1: more than half of the days on; off-2: no days on.
 #[test]
 fn off_days_of_02() {
     for w in [15, 123] {
@@ -88,12 +96,14 @@ fn off_days_of_02() {
     }
 }
 
+/// figure-5, caps-2.
 #[test]
 fn figure_10_and_11_caps_of_days_1460_and_1461() {
     assert_eq!(caps_on(1460)[0], 13_000);
     assert_eq!(caps_on(1461)[0], 11_000);
 }
 
+/// caps-1 to caps-3.
 #[test]
 fn caps_of_every_row() {
     assert_eq!(caps_on(181), [20_000, 220, 55, 40]);
@@ -101,12 +111,13 @@ fn caps_of_every_row() {
     assert_eq!(caps_on(365), [18_000, 220, 40, 40]);
     assert_eq!(caps_on(730), [15_500, 220, 20, 40]);
     assert_eq!(caps_on(1096), [13_000, 190, 20, 30]);
+    assert_eq!(caps_on(1461), [11_000, 190, 20, 30]);
     assert_eq!(caps_on(1826), [10_000, 190, 20, 30]);
     assert_eq!(caps_on(3833), [10_000, 190, 20, 30]);
 }
 
-/// 02, 2/13: the row of the day and the newer ones are read; all of them on a
-/// day before the first row.
+/// rows-1, rows-2: the row of the day and the newer ones are read; all of them
+/// on a day before the first row.
 #[test]
 fn rows_read_from_the_last_one_back() {
     let read = |day| search(day).read;
@@ -129,7 +140,7 @@ fn rows_read_from_the_last_one_back() {
     assert_eq!([4000, u64::MAX].map(read), [1, 1]);
 }
 
-/// Every day has the cap that reading all rows from the first on gives.
+/// rows-3: caps are as if all rows were read from the first on.
 #[test]
 fn caps_of_every_day_are_as_before() {
     for day in 0..=4000 {
@@ -139,6 +150,7 @@ fn caps_of_every_day_are_as_before() {
     }
 }
 
+/// month-1 to month-3.
 #[test]
 fn months_by_the_gregorian_rule() {
     assert_eq!(FIRST_DAYS[..4], [0, 31, 59, 90]);
@@ -152,6 +164,7 @@ fn months_by_the_gregorian_rule() {
     assert!(caps_begin_months.iter().all(|day| is_first_day(*day)));
 }
 
+/// statement-1: 01's printed example.
 const PRINTED: &str = "day 1461
 paid 22000
 credit 1500
@@ -163,6 +176,7 @@ past 1
 refused 1
 ";
 
+/// statement-1: the example's nine lines.
 #[test]
 fn statement_that_01_prints() {
     let calls = [
@@ -178,6 +192,7 @@ fn statement_that_01_prints() {
     assert_eq!(statement(&bytes), PRINTED);
 }
 
+/// statement-1: L none; statement-2: bad files.
 #[test]
 fn statement_of_a_limit_none_and_of_bad_files() {
     let bytes = file(&bundle(1461, 0, 11_000, 1_048_576), &[(7, 0), (6, 0)]);

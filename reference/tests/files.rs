@@ -1,4 +1,6 @@
 //! The trip file: numbers and order of reading, finding, the reader, writing.
+//! Rules file-1 to file-9, find-1, reader-1, reader-2, write-1, write-2,
+//! order-4, refusal-10 to refusal-16, fault-1 to fault-4.
 
 mod common;
 use common::*;
@@ -15,6 +17,7 @@ fn calls_words() -> Vec<u8> {
     to_bytes(&[1, 1, 6, 5])
 }
 
+/// write-1, file-1 to file-8.
 #[test]
 fn a_written_file_word_by_word() {
     let bytes = file(&bundle(1461, 4, 5, 6), &[(1, 2), (7, 0)]);
@@ -27,6 +30,7 @@ fn a_written_file_word_by_word() {
     assert_eq!(words.iter().fold(0, |a: u32, b| a.wrapping_add(*b)), 0);
 }
 
+/// refusal-10: too short, too long, or not as told (file-2).
 #[test]
 fn read_10_comes_from_the_bytes_got() {
     for short in 0..12 {
@@ -44,6 +48,7 @@ fn read_10_comes_from_the_bytes_got() {
     assert_eq!(read(&longest), Err(10));
 }
 
+/// order-4: 11 before 12. file-4: the count and the room for the table.
 #[test]
 fn read_11_before_12() {
     let mut bytes = assemble(&[(1, plan_words()), (2, calls_words())]);
@@ -59,6 +64,7 @@ fn read_11_before_12() {
     }
 }
 
+/// file-6: empty bodies, and no wrapping sums; file-4: at most 8.
 #[test]
 fn empty_sections_and_exact_sums() {
     let empty = assemble(&[
@@ -80,6 +86,7 @@ fn empty_sections_and_exact_sums() {
     assert_eq!(read(&assemble(&nine[..8])), Err(14));
 }
 
+/// file-9: other kinds are passed over.
 #[test]
 fn other_kinds_and_either_order() {
     let sections = [
@@ -94,6 +101,7 @@ fn other_kinds_and_either_order() {
     assert_eq!(trip.calls, [(1, 1), (6, 5)]);
 }
 
+/// order-4: 13, 14, 15, then the plan's numbers.
 #[test]
 fn order_of_13_14_15_1_2() {
     let bad_plan = to_bytes(&[9; 7]);
@@ -118,7 +126,8 @@ fn order_of_13_14_15_1_2() {
     }
 }
 
-/// The faults of a plan in reading: after 15, and in the order 1, 17, 18, 2.
+/// order-4: the faults of a plan in reading, after 15, and 1, 17, 18, 2 in
+/// turn.
 #[test]
 fn read_tells_the_faults_of_a_plan_apart() {
     let bad_calls = to_bytes(&[1, 1, 8, 0]);
@@ -140,7 +149,8 @@ fn read_tells_the_faults_of_a_plan_apart() {
     }
 }
 
-/// In writing they come before all others, and nothing is written.
+/// order-4: in writing they come before all others; order-2: nothing is
+/// written.
 #[test]
 fn write_tells_the_faults_of_a_plan_first() {
     let many = vec![7; 8185];
@@ -170,6 +180,7 @@ fn write_tells_the_faults_of_a_plan_first() {
     }
 }
 
+/// refusal-15: codes, places and day changes.
 #[test]
 fn read_15_codes_and_numbers() {
     for (code, number, fine) in [
@@ -187,6 +198,7 @@ fn read_15_codes_and_numbers() {
     }
 }
 
+/// refusal-4, refusal-7: no fault of the file.
 #[test]
 fn numbers_out_of_range_are_refused_calls() {
     let bytes = file(
@@ -196,6 +208,7 @@ fn numbers_out_of_range_are_refused_calls() {
     assert!(statement(&bytes).ends_with("refused 3\n"));
 }
 
+/// find-1: a part of the file; order-4: 10 to 13.
 #[test]
 fn finding_hands_back_the_part_itself() {
     let bytes = assemble(&[
@@ -214,12 +227,13 @@ fn finding_hands_back_the_part_itself() {
     assert_eq!(find(&other, 2), Err(11));
     resum(&mut other);
     assert_eq!(find(&other, 2), Err(12));
-    // Bodies, codes and plans are no matter of finding.
+    // order-4: bodies, codes and plans are no matter of finding.
     let odd = assemble(&[(2, vec![0; 4])]);
     assert_eq!(find(&odd, 2), Ok(&[0; 4][..]));
     assert_eq!(find(&odd, 1), Err(13));
 }
 
+/// reader-1, reader-2: two calls, then none.
 #[test]
 fn the_reader_stays_where_fewer_than_8_remain() {
     let section = to_bytes(&[9, 8, 7, 6, 5]);
@@ -230,6 +244,7 @@ fn the_reader_stays_where_fewer_than_8_remain() {
     assert_eq!((reader.next(), reader.position), (None, 16));
 }
 
+/// order-4: 1, 2, 14, 15, 16; write-2: bytes behind the file.
 #[test]
 fn order_of_writing_and_the_buffer() {
     let fine = prepaid(1461, 1, 2, 3);

@@ -1,5 +1,5 @@
-//! Outgoing zone calls are charged half a minute at least (02, 3/13). Where a
-//! plan has a minute price, it is 600 points, ten a second.
+//! Outgoing zone calls are charged half a minute at least. Rules half-1 to
+//! half-9. Where a plan has a minute price, it is 600 points, ten a second.
 
 mod common;
 use common::*;
@@ -10,6 +10,7 @@ use reference::services::State;
 use reference::terms::{Call, Kind, Place, Service};
 
 const LENGTHS: [u64; 4] = [1, 29, 30, 31];
+/// half-5: the limit of charged seconds.
 const MOST: u64 = 1_000_000_000_000;
 
 fn priced_plan() -> Plan {
@@ -53,6 +54,7 @@ fn seconds(account: &Account) -> [u64; 4] {
     ]
 }
 
+/// half-2: at home.
 #[test]
 fn at_home_every_second_counts_as_it_is() {
     let mut account = at(priced_plan(), 100_000, Place::Home);
@@ -66,6 +68,7 @@ fn at_home_every_second_counts_as_it_is() {
     assert_eq!(account.today.units[1], [91, 0, 0]);
 }
 
+/// half-1, half-3, half-4: in the zone.
 #[test]
 fn in_the_zone_half_a_minute_is_the_least() {
     let mut account = at(priced_plan(), 100_000, Place::Zone);
@@ -79,6 +82,7 @@ fn in_the_zone_half_a_minute_is_the_least() {
     assert_eq!(account.today.units[1], [0, 91, 0], "as spoken");
 }
 
+/// half-2, use-10: elsewhere.
 #[test]
 fn elsewhere_records_are_free_and_count_as_they_are() {
     let mut account = at(priced_plan(), 100_000, Place::Elsewhere);
@@ -90,8 +94,9 @@ fn elsewhere_records_are_free_and_count_as_they_are() {
     assert_eq!(account.today.units[1], [0, 0, 91]);
 }
 
-/// The cap of day 1461 is 190 points a minute: 30 s are 95 points, and the sum
-/// over 121 s is 22,990 / 60 = 383 points, 98 more than over 90 s.
+/// half-1, use-12: the cap of day 1461 is 190 points a minute. 30 s are 95
+/// points, and the sum over 121 s is 22,990 / 60 = 383 points, 98 more than
+/// over 90 s.
 #[test]
 fn the_surcharge_bears_on_charged_seconds() {
     let mut account = surcharged(at(priced_plan(), 100_000, Place::Zone));
@@ -110,8 +115,9 @@ fn the_surcharge_bears_on_charged_seconds() {
     }
 }
 
-/// A second a day in the zone from day 181 on: Surcharged at the 138th change.
-/// The cap of day 319 is 220 points a minute, so that half a minute is 110.
+/// service-8: a second a day in the zone from day 181 on, Surcharged at the
+/// 138th change. half-1: the cap of day 319 is 220 points a minute, so that
+/// half a minute is 110.
 #[test]
 fn calls_that_became_surcharged_bear_110_points_for_a_second() {
     let mut account = at(prepaid(181, 0, 600, 0), 100_000, Place::Zone);
@@ -127,6 +133,7 @@ fn calls_that_became_surcharged_bear_110_points_for_a_second() {
     assert_eq!(account.credit, 100_000 - 41_810);
 }
 
+/// half-2: other kinds.
 #[test]
 fn other_kinds_in_the_zone_count_as_they_are() {
     let mut account = at(prepaid(1461, 10_000, 600, 500), 100_000, Place::Zone);
@@ -139,9 +146,9 @@ fn other_kinds_in_the_zone_count_as_they_are() {
     assert_eq!(seconds(&account), [0; 4]);
 }
 
-/// 60 points a minute, so that a second is a point; two records of a second
-/// each in the zone, with one at home between them, are 30, 1 and 30 points.
-/// At 1 point a minute it takes two short records to make one point.
+/// half-9: 60 points a minute, so that a second is a point; two records of a
+/// second each in the zone, with one at home between them, are 30, 1 and 30
+/// points. At 1 point a minute it takes two short records to make one point.
 #[test]
 fn charged_seconds_are_divided_once_over_the_life() {
     let mut account = at(prepaid(1461, 0, 60, 0), 100, Place::Zone);
@@ -167,6 +174,7 @@ fn all_but(plan: Plan, left: u64) -> Account {
     account
 }
 
+/// half-5: 20 seconds are left, and half a minute would be charged.
 #[test]
 fn refusal_5_by_charged_seconds_alone() {
     let mut account = all_but(priced_plan(), 20);
@@ -184,6 +192,7 @@ fn refusal_5_by_charged_seconds_alone() {
     assert_eq!(seconds(&account), [MOST, MOST, 0, 0]);
 }
 
+/// half-5: up to the limit, afford-1 with it.
 #[test]
 fn charged_seconds_may_come_to_the_limit_and_no_further() {
     let mut account = all_but(priced_plan(), 30);
@@ -204,6 +213,7 @@ fn charged_seconds_may_come_to_the_limit_and_no_further() {
     );
 }
 
+/// half-5, order-3.
 #[test]
 fn refusal_5_by_charged_seconds_comes_before_6_and_after_4() {
     let mut account = open(priced_plan());
@@ -216,8 +226,8 @@ fn refusal_5_by_charged_seconds_comes_before_6_and_after_4() {
     assert_eq!(account.apply(outgoing(1)), Err(6));
 }
 
-/// 62 zone days with a second each, 1,860 charged ones, and 61 days at home.
-/// With two seconds on each of these, 122 stand against 62; with one, 61.
+/// half-4: 62 zone days with a second each, 1,860 charged ones, and 61 days at
+/// home. With two seconds on each of these, 122 stand against 62; with one, 61.
 #[test]
 fn prevalence_over_123_days_is_by_spoken_seconds() {
     for (at_home, wanted) in [(2, State::Clear), (1, State::Warned(0))] {
@@ -235,8 +245,8 @@ fn prevalence_over_123_days_is_by_spoken_seconds() {
     }
 }
 
-/// The same over the 15 days after the warning: 8 zone days with a second each,
-/// 240 charged ones, against 14 or 7 at home.
+/// half-4: the same over the 15 days after the warning, 8 zone days with a
+/// second each, 240 charged ones, against 14 or 7 at home.
 #[test]
 fn prevalence_over_15_days_is_by_spoken_seconds() {
     for (at_home, wanted) in [(2, State::Clear), (1, State::Surcharged)] {
@@ -253,9 +263,10 @@ fn prevalence_over_15_days_is_by_spoken_seconds() {
     }
 }
 
-/// Ten zone records of a second each, surcharged: 10 seconds spoken, and 300
-/// charged, priced and surcharged ones. Without prices and with cap sums that
-/// stay, no other rule of soundness looks at the seconds altered here.
+/// half-6: ten zone records of a second each, surcharged: 10 seconds spoken,
+/// and 300 charged, priced and surcharged ones. Without prices and with cap
+/// sums that stay, no other rule of soundness looks at the seconds altered
+/// here.
 #[test]
 fn charged_seconds_bound_the_priced_and_the_surcharged_ones() {
     let mut account = surcharged(at(free_plan(), 10_000, Place::Zone));
@@ -279,6 +290,7 @@ fn charged_seconds_bound_the_priced_and_the_surcharged_ones() {
     assert!(!account.sound(), "over its limit");
 }
 
+/// half-6: charged and spoken seconds do not bound each other.
 #[test]
 fn charged_seconds_below_the_spoken_ones_are_sound() {
     let mut account = at(free_plan(), 0, Place::Elsewhere);
@@ -293,8 +305,8 @@ fn charged_seconds_below_the_spoken_ones_are_sound() {
     assert_eq!((most(&account), account.apply(outgoing(3))), (2, Err(5)));
 }
 
-/// Half a minute is 300 points, 31 seconds are 310. With the surcharge of day
-/// 1461 they are 300 + 95 and 310 + 98 (5,890 / 60).
+/// afford-1, half-1: half a minute is 300 points, 31 seconds are 310. With the
+/// surcharge of day 1461 they are 300 + 95 and 310 + 98 (5,890 / 60).
 #[test]
 fn afford_in_the_zone_is_0_or_at_least_30() {
     let figures = [(0, 0), (299, 0), (300, 30), (309, 30), (310, 31)];
@@ -319,6 +331,7 @@ fn afford_in_the_zone_is_0_or_at_least_30() {
     );
 }
 
+/// afford-1, half-2.
 #[test]
 fn afford_at_home_is_by_the_second() {
     for (credit, n) in [(9, 0), (10, 1), (299, 29), (300, 30), (310, 31)] {
@@ -334,7 +347,8 @@ fn afford_at_home_is_by_the_second() {
     assert_eq!(most(&account), 29);
 }
 
-/// 100 seconds up to the limit, of which one in the zone takes 30.
+/// afford-1, half-5: 100 seconds up to the limit, of which one in the zone
+/// takes 30.
 #[test]
 fn afford_heeds_the_limit_of_charged_seconds() {
     let mut account = all_but(priced_plan(), 100);
@@ -355,8 +369,8 @@ fn in_zone(calls: &[Call]) -> Vec<Call> {
     [&[Call::TopUp(10_000), zone()], calls].concat()
 }
 
-/// 20 + 40 and 30 + 30 are both a minute, charged as 30 + 40 = 70 and as 60
-/// seconds, which are 700 and 600 points.
+/// half-8: 20 + 40 and 30 + 30 are both a minute, charged as 30 + 40 = 70 and
+/// as 60 seconds, which are 700 and 600 points.
 #[test]
 fn equal_units_with_other_charged_seconds_do_not_match() {
     let first = trace(priced_plan(), &in_zone(&[outgoing(20), outgoing(40)]));
@@ -378,6 +392,7 @@ fn equal_units_with_other_charged_seconds_do_not_match() {
     assert_ne!(first.accounts[2], second.accounts[2]);
 }
 
+/// half-8, list-9: both agree.
 #[test]
 fn equal_units_and_charged_seconds_match() {
     let pairs = [
@@ -400,6 +415,7 @@ fn equal_units_and_charged_seconds_match() {
     assert!(first.stretches_agree(&second) && first.accounts == second.accounts);
 }
 
+/// half-8: charged seconds alone agree.
 #[test]
 fn equal_charged_seconds_with_other_units_do_not_match() {
     let first = trace(priced_plan(), &in_zone(&[outgoing(20)]));
@@ -410,8 +426,8 @@ fn equal_charged_seconds_with_other_units_do_not_match() {
     assert!(first.matches(&second));
 }
 
-/// The same lists of seconds before and after a cut, and the other way round:
-/// 130 charged seconds in both at the end, but not before the cut.
+/// half-8: the same lists of seconds before and after a cut, and the other way
+/// round: 130 charged seconds in both at the end, but not before the cut.
 #[test]
 fn charged_seconds_are_held_against_each_other_by_stretches() {
     let (uneven, even) = ([20, 40].map(outgoing), [30, 30].map(outgoing));
@@ -430,6 +446,7 @@ fn charged_seconds_are_held_against_each_other_by_stretches() {
     assert!(first.matches(&second));
 }
 
+/// half-5; refusal-6 of half a minute.
 #[test]
 fn events_of_limits_tell_charged_seconds_alone() {
     let afford = Call::Afford(Kind::Outgoing);

@@ -1,4 +1,5 @@
-//! Accounts as numbers and back, by the layout of include/meter.h.
+//! Accounts as numbers and back, by the layout of include/meter.h. Rules
+//! library-1, library-2, library-5, account-2 to account-4.
 
 mod common;
 use common::*;
@@ -66,6 +67,7 @@ fn full() -> Account {
     account
 }
 
+/// account-4, library-1: the numbers hold all of an account.
 #[test]
 fn every_account_is_that_of_its_numbers() {
     let mut accounts = some_accounts();
@@ -79,7 +81,8 @@ fn every_account_is_that_of_its_numbers() {
     assert_eq!(logged, 123);
 }
 
-/// Numbers of an account are those of the account that they stand for.
+/// library-1: numbers of an account are those of the account that they stand
+/// for.
 #[test]
 fn numbers_come_back() {
     let mut rng = Rng::new(3);
@@ -95,7 +98,7 @@ fn numbers_come_back() {
     }
 }
 
-/// Each place of the layout by itself.
+/// account-2, library-1: each place of the layout by itself.
 #[test]
 fn every_place_holds_its_own_field() {
     let account = full();
@@ -131,6 +134,7 @@ fn every_place_holds_its_own_field() {
     assert!(distinct.len() > 1500);
 }
 
+/// account-3, plan-5: all is 0 but plan, day and L.
 #[test]
 fn a_newly_opened_account_in_numbers() {
     let all = numbers(&open(prepaid(1461, 10_000, 600, 500)));
@@ -141,6 +145,7 @@ fn a_newly_opened_account_in_numbers() {
     assert_eq!(numbers(&open(unlimited(1461, 11_000)))[1631], 2_097_153);
 }
 
+/// library-5: another count, place or mark, or another log.
 #[test]
 fn numbers_of_no_account() {
     let mut sound = open(prepaid(1461, 10_000, 600, 500));
@@ -172,8 +177,8 @@ fn numbers_of_no_account() {
     }
 }
 
-/// What is wider than a word is outside the range of a plan's field, of the
-/// day or of a warning: never sound.
+/// sound-1, sound-11: what is wider than a word is outside the range of a
+/// plan's field, of the day or of a warning.
 #[test]
 fn wide_numbers_are_not_sound() {
     let sound = numbers(&open(bundle(1461, 5000, 1000, 100_000)));

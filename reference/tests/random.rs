@@ -1,5 +1,6 @@
 //! A few random trips through all checks, and the pair that shows why the
-//! claim about lists is one about all cuts together.
+//! claim about lists is one about all cuts together. Rules list-1 to list-9,
+//! book-1 to book-12.
 
 mod common;
 use common::*;
@@ -7,6 +8,7 @@ use reference::check::check_seed;
 use reference::coverage::Coverage;
 use reference::matching::trace;
 
+/// list-1, list-9, book-12: some lists through all checks.
 #[test]
 fn random_trips_hold() {
     let mut coverage = Coverage::new();
@@ -15,6 +17,7 @@ fn random_trips_hold() {
     }
 }
 
+/// list-9: equal at the end, and not ahead of every cut.
 #[test]
 fn equal_ends_after_different_stretches() {
     let plan = unlimited(1461, 11_000);

@@ -1,4 +1,6 @@
-//! Soundness (refusal 0), the numbers and order of the refusals.
+//! Soundness (refusal-0), the numbers and order of the refusals. Rules sound-1
+//! to sound-11, half-6, refusal-0 to refusal-9, order-1 to order-4, fault-1 to
+//! fault-4.
 
 mod common;
 use common::*;
@@ -44,6 +46,7 @@ fn assert_refused(account: &Account) {
     }
 }
 
+/// sound-1 to sound-11, half-6: each break is refused with 0.
 #[test]
 fn each_rule_of_soundness_by_itself() {
     let sound = busy();
@@ -84,6 +87,7 @@ fn each_rule_of_soundness_by_itself() {
     }
 }
 
+/// sound-2: paid in by itself.
 #[test]
 fn paid_in_over_its_limit_is_unsound_though_the_sums_agree() {
     let mut account = open(prepaid(700, 0, 0, 0));
@@ -93,7 +97,7 @@ fn paid_in_over_its_limit_is_unsound_though_the_sums_agree() {
     assert_refused(&account);
 }
 
-/// Soundness is the list of 01, with 02's 3/13, and nothing more.
+/// Soundness is sound-1 to sound-11, half-6, and nothing more.
 #[test]
 fn odd_accounts_that_are_sound() {
     let changes: [fn(&mut Account); 8] = [
@@ -144,8 +148,8 @@ fn alter(account: &mut Account, rng: &mut Rng) {
     }
 }
 
-/// Any values at all are refused or sound, and nothing overflows. Where sums
-/// wrap, as in a release build, an overflow would not show.
+/// refusal-0: any values at all are refused or sound, and nothing overflows.
+/// Where sums wrap, as in a release build, an overflow would not show.
 #[test]
 #[cfg_attr(
     not(debug_assertions),
@@ -169,6 +173,7 @@ fn any_values_never_overflow() {
     }
 }
 
+/// fault-1 to fault-4, order-4.
 #[test]
 fn open_tells_the_faults_of_a_plan_apart() {
     for words in GOOD_PLANS {
@@ -181,7 +186,7 @@ fn open_tells_the_faults_of_a_plan_apart() {
     }
 }
 
-/// What each field may be, by form: start day, prices, fee, V.
+/// plan-2 to plan-6, refusal-2: what each field may be, by form.
 const RANGES: [[RangeInclusive<u32>; 6]; 3] = {
     const START: RangeInclusive<u32> = 181..=3833;
     const PRICE: RangeInclusive<u32> = 0..=1_000_000;
@@ -194,7 +199,8 @@ const RANGES: [[RangeInclusive<u32>; 6]; 3] = {
     ]
 };
 
-/// The number that a plan must get, 0 if it must be accepted.
+/// fault-1 to fault-4: the number that a plan must get, 0 if it must be
+/// accepted.
 fn number_by_ranges(words: [u32; 7]) -> u32 {
     let Some(ranges) = RANGES.get(words[0] as usize) else {
         return 1;
@@ -235,8 +241,8 @@ fn words_near_the_edges(rng: &mut Rng) -> [u32; 7] {
     words
 }
 
-/// A plan is accepted just where all ranges are kept, and gets one number at
-/// Open, in reading and in writing.
+/// order-4: a plan is accepted just where all ranges are kept, and gets one
+/// number at Open, in reading and in writing.
 #[test]
 fn plans_near_the_edges() {
     let mut rng = Rng::new(413);
@@ -256,7 +262,7 @@ fn plans_near_the_edges() {
     assert!(seen.values().all(|count| *count > 1000), "{seen:?}");
 }
 
-/// The plan of a sound account keeps the same ranges: each bad one is unsound.
+/// sound-1: the plan of a sound account keeps the same ranges.
 #[test]
 fn accounts_under_bad_plans_are_not_sound() {
     for (number, words) in bad_plans() {
@@ -267,6 +273,7 @@ fn accounts_under_bad_plans_are_not_sound() {
     }
 }
 
+/// order-3, refusal-3 to refusal-6; afford-1.
 #[test]
 fn use_refuses_in_the_order_3_4_5_6() {
     let mut account = open(prepaid(181, 1_000_000, 1_000_000, 1_000_000));
@@ -282,12 +289,13 @@ fn use_refuses_in_the_order_3_4_5_6() {
     assert_eq!(account.apply(data(1_000_000_000)), Err(5));
     assert_eq!(account.apply(Call::Use(Kind::Sms, 1)), Err(6));
     assert_eq!(account.afford(Kind::Sms), Ok(Answer::Most(0)));
-    // One kB costs 0 points of its own: accepted with credit 0.
+    // refusal-6: one kB costs 0 points of its own, accepted with credit 0.
     assert_eq!(account.apply(data(1)), used(0, 0, 0, 1, false));
     assert_eq!(account.apply(data(1)), Err(5));
     assert_eq!(account.afford(Kind::Data), Ok(Answer::Most(0)));
 }
 
+/// order-3, refusal-7 to refusal-9; register-2 on the last day.
 #[test]
 fn top_up_and_next_day_refusals() {
     let mut account = open(prepaid(3832, 0, 0, 0));
@@ -307,6 +315,7 @@ fn top_up_and_next_day_refusals() {
     assert_eq!(account.l, Some(104_857_600_000));
 }
 
+/// mistake-1, use-11: one division over the life.
 #[test]
 fn a_thousand_records_of_one_kb_cost_as_much_as_one() {
     let mut split = open(prepaid(181, 1_000_000, 0, 0));

@@ -1,5 +1,6 @@
 //! The functions of include/meter.h, as this crate's meter gives them. Values
-//! are 01's or were worked out by hand.
+//! are those of 01's printed example (statement-1) or were worked out by hand.
+//! Rules library-3 to library-10.
 
 mod common;
 use common::*;
@@ -10,9 +11,9 @@ use reference::sides::{Kept, Step, ACCEPTED, BAD_ARGUMENT, END, REFERENCE};
 
 /// Numbers that no account has, for Open to write over.
 const ANY: Numbers = [u64::MAX; ACCOUNT_NUMBERS];
-/// 01's example: prepaid from day 1461.
+/// 01's printed example (statement-1): prepaid from day 1461.
 const PLAN: [u64; 7] = [0, 1461, 10_000, 600, 500, 0, 0];
-/// Its calls, as code and number of a trip file.
+/// file-8: its calls, as code and number of a trip file.
 const CALLS: [(u32, u32); 6] = [
     (6, 22_000),
     (1, 1),
@@ -28,7 +29,7 @@ fn opened() -> Numbers {
     account
 }
 
-/// 01's example as a file.
+/// The example as a file.
 fn example() -> Vec<u8> {
     file(&prepaid(1461, 10_000, 600, 500), &CALLS)
 }
@@ -39,6 +40,7 @@ fn used_units(account: &mut Numbers, kind: u64, n: u64) -> (u64, [u64; 5]) {
     (returned, answer)
 }
 
+/// library-6, library-7: numbers, answers and refusals; use-14, use-15.
 #[test]
 fn the_example_call_by_call() {
     let mut account = opened();
@@ -71,6 +73,7 @@ fn the_example_call_by_call() {
     assert_eq!((account[at::DAY], account[at::LOGGED]), (1462, 1));
 }
 
+/// library-8: statement and reading; library-9: a run.
 #[test]
 fn the_example_as_a_file() {
     let file = example();
@@ -91,6 +94,7 @@ fn the_example_as_a_file() {
     assert_eq!(account[at::PAID], 44_000);
 }
 
+/// find-1, refusal-13, reader-1, reader-2.
 #[test]
 fn sections_and_calls() {
     let file = example();
@@ -111,6 +115,7 @@ fn sections_and_calls() {
     assert_eq!(answer, [22_000, 1, 12]);
 }
 
+/// trip-2: the same bytes; write-2: those behind stay; refusal-16, fault-1.
 #[test]
 fn what_is_written_is_the_file() {
     let (codes, numbers): (Vec<u32>, Vec<u32>) = CALLS.into_iter().unzip();
@@ -127,6 +132,7 @@ fn what_is_written_is_the_file() {
     assert_eq!(written, 1);
 }
 
+/// library-10: caps, and rows read (rows-2).
 #[test]
 fn caps_of_days() {
     let wanted = [
@@ -143,7 +149,8 @@ fn caps_of_days() {
     }
 }
 
-/// Arguments of no call come before every refusal, and change nothing.
+/// library-4: arguments of no call come before every refusal, and change
+/// nothing.
 #[test]
 fn bad_arguments_come_first() {
     let file = example();
@@ -173,7 +180,8 @@ fn bad_arguments_come_first() {
     assert_eq!((unsound, room), (ANY, [9; 8]));
 }
 
-/// Numbers that are no sound account, and other counts of them, are refused.
+/// library-5, refusal-0: numbers that are no sound account, and other counts of
+/// them, are refused.
 #[test]
 fn every_function_with_an_account_refuses_0() {
     let file = example();
@@ -200,8 +208,8 @@ fn every_function_with_an_account_refuses_0() {
     assert_eq!((REFERENCE.is_sound)(&opened()), ACCEPTED);
 }
 
-/// An account that is kept beside its numbers goes as the numbers alone do, and
-/// a list of single calls ends as its file.
+/// library-6, library-9: an account that is kept beside its numbers goes as the
+/// numbers alone do, and a list of single calls ends as its file.
 #[test]
 fn kept_accounts_go_as_their_numbers() {
     let mut calls = 0;

@@ -1,5 +1,7 @@
 //! The stored inputs and outputs of the programs are those that the maker
 //! gives, and hold what they are for. Figures here were worked out by hand.
+//! Rules statement-1, statement-2, service-7 to service-9, use-11, use-12,
+//! caps-2, half-1 to half-5, limit-5, register-2, topup-2, order-4.
 
 use reference::meter::Account;
 use reference::services::State;
@@ -42,7 +44,7 @@ fn names_are_unique_and_numbers_are_as_told() {
     }
 }
 
-/// Every number that reading gives.
+/// order-4: every number that reading gives.
 const READ_NUMBERS: [u32; 10] = [1, 2, 10, 11, 12, 13, 14, 15, 17, 18];
 
 /// The numbers of the bad files among cases, in order.
@@ -53,6 +55,7 @@ fn bad_numbers(cases: Vec<StoredCase>) -> Vec<u32> {
     numbers
 }
 
+/// statement-1, statement-2; refusal-10: the lengths.
 #[test]
 fn statement_is_run_on_each_number_and_length() {
     let mut numbers = bad_numbers(statement_cases());
@@ -103,6 +106,7 @@ fn money(name: &str) -> [u64; 4] {
     [figures[2], figures[3], figures[4], figures[7]]
 }
 
+/// service-7 to service-9.
 #[test]
 fn each_service_is_warned_surcharged_and_cleared() {
     let all = [
@@ -118,6 +122,7 @@ fn each_service_is_warned_surcharged_and_cleared() {
     assert_eq!(states("data_spared", Service::Data), spared);
 }
 
+/// use-11: home charges; use-12: surcharges.
 #[test]
 fn charges_of_the_services() {
     // 13,800 kB and 4 GB at 10,000 points a GB; one GB at the cap of 20,000.
@@ -133,7 +138,8 @@ fn charges_of_the_services() {
     assert_eq!(money("data_spared"), [9_989_870, 10_130, 0, 0]);
 }
 
-/// Two GB, one under each of two rows, of 100,000 points; no home price.
+/// caps-2, use-6: two GB, one under each of two rows, of 100,000 points; no
+/// home price.
 #[test]
 fn surcharges_on_both_sides_of_each_row() {
     let gigabytes = 2 * 1_048_576;
@@ -155,9 +161,9 @@ fn all_figures(name: &str) -> [u64; 9] {
     figures
 }
 
-/// At home 91 s are 910 points; in the zone 30 + 30 + 30 + 31 = 121 s are
-/// charged, 1,210 points; elsewhere nothing. L comes from the credit on entry:
-/// 99,090 x 1,048,576 / 11,000 = 9,445,763.
+/// half-2: at home 91 s are 910 points; half-1: in the zone 30 + 30 + 30 + 31 =
+/// 121 s are charged, 1,210 points; use-10: elsewhere nothing. register-2: L
+/// comes from the credit on entry: 99,090 x 1,048,576 / 11,000 = 9,445,763.
 #[test]
 fn short_calls_at_each_place() {
     let wanted = [1461, 100_000, 97_880, 2120, 0, 9_445_763, 0, 0, 0];
@@ -167,9 +173,9 @@ fn short_calls_at_each_place() {
     assert_eq!(statement(&named("half_minute").bytes), printed);
 }
 
-/// 138 x 30 + 30 + 31 + 200 + 30 = 4,431 s at ten points; (30 + 31) x 220 / 60
-/// = 223 points. The credit on the last entry is 300 points more than at the
-/// end: 9,955,767 x 1,048,576 / 20,000 = 521,968,916.
+/// half-9: 138 x 30 + 30 + 31 + 200 + 30 = 4,431 s at ten points; (30 + 31) x
+/// 220 / 60 = 223 points. The credit on the last entry is 300 points more than
+/// at the end: 9,955,767 x 1,048,576 / 20,000 = 521,968,916.
 #[test]
 fn surcharged_short_calls() {
     let all = [
@@ -194,16 +200,17 @@ fn surcharged_short_calls() {
     assert_eq!(all_figures(name), wanted);
 }
 
-/// 300 points for a second in the zone, ten for one at home. L comes from the
-/// top-up in the zone, with a credit of 299: 299 x 1,048,576 / 11,000 = 28,502.
+/// half-1: 300 points for a second in the zone, ten for one at home. topup-2: L
+/// comes from the top-up in the zone, with a credit of 299: 299 x 1,048,576 /
+/// 11,000 = 28,502.
 #[test]
 fn credit_for_half_a_minute_and_a_point_less() {
     let wanted = [1461, 599, 289, 310, 0, 28_502, 0, 0, 1];
     assert_eq!(all_figures("half_minute_credit"), wanted);
 }
 
-/// 300 points for the one second that was accepted in the zone; three refused.
-/// On entry 1,000 x 1,048,576 / 11,000 = 95,325.
+/// half-5: 300 points for the one second that was accepted in the zone; three
+/// refused. On entry 1,000 x 1,048,576 / 11,000 = 95,325.
 #[test]
 fn charged_seconds_come_to_their_limit_first() {
     let wanted = [1461, 1000, 700, 300, 0, 95_325, 0, 0, 3];
@@ -221,8 +228,8 @@ fn charged_seconds_come_to_their_limit_first() {
     assert_eq!(account.lifetime[1], 999_999_999_971);
 }
 
-/// A million points each for a minute, a GB past V and eight SMS.
-/// L is 2 x 10,000,000 x 1,048,576 / 11,000 = 1,906,501,818.
+/// plan-2 to plan-4: a million points each for a minute, a GB past V and eight
+/// SMS. limit-5: L is 2 x 10,000,000 x 1,048,576 / 11,000 = 1,906,501,818.
 #[test]
 fn a_plan_with_every_field_at_its_limit() {
     let wanted = [
@@ -248,9 +255,9 @@ fn refusals(name: &str) -> Vec<u32> {
     calls.filter_map(|call| account.apply(call).err()).collect()
 }
 
-/// Home: 1,050,085,949 kB at 5,000 points a GB are 5,007,199 points, and
-/// 60 + 30 + 90 s at ten points 1,800. A GB past L bears 10,000. On entry
-/// L is 9,994,400 x 1,048,576 / 10,000 = 1,047,988,797.
+/// refusal-3 to refusal-9. Home: 1,050,085,949 kB at 5,000 points a GB are
+/// 5,007,199 points, and 60 + 30 + 90 s at ten points 1,800. A GB past L bears
+/// 10,000. On entry L is 9,994,400 x 1,048,576 / 10,000 = 1,047,988,797.
 #[test]
 fn a_trip_with_every_refusal() {
     assert_eq!(refusals("every_refusal"), [3, 7, 7, 4, 4, 6, 5, 9, 8]);
@@ -268,6 +275,7 @@ fn a_trip_with_every_refusal() {
     assert_eq!(all_figures("every_refusal"), wanted);
 }
 
+/// service-1, service-7 to service-9.
 #[test]
 fn the_largest_file_takes_all_services_through_all_states() {
     let trip = read(&named("largest").bytes).unwrap();

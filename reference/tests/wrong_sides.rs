@@ -1,5 +1,5 @@
 //! Meters that go wrong in one point of the interface, each of which the
-//! comparison finds.
+//! comparison finds. Rules library-3 to library-10, sound-1 to sound-11.
 
 use reference::caps;
 use reference::coverage::soundness::{broken, Condition};
@@ -150,7 +150,7 @@ wrong!(an_afford_that_gives_up_early_is_found, afford: |account, kind, answer| {
     returned
 }, "Afford(");
 
-// An Afford that lets a second through where half a minute is too dear.
+// half-1: an Afford that lets a second through where half a minute is too dear.
 wrong!(an_afford_of_1_second_in_place_of_0_is_found, afford: |account, kind, answer| {
     let returned = (REFERENCE.afford)(account, kind, answer);
     if returned == ACCEPTED && kind == 1 {
@@ -184,7 +184,8 @@ wrong!(another_file_number_is_found, statement: |file, answer| {
     }
 }, "Statement returned 13, not 14");
 
-// A meter that still has one number for all faults of a plan but its day.
+// fault-2, fault-3: a meter that still has one number for all faults of a plan
+// but its day.
 wrong!(a_price_told_as_1_is_found, read: |file, answer| {
     match (REFERENCE.read)(file, answer) {
         17 | 18 => 1,
@@ -304,6 +305,7 @@ wrong!(a_plan_cut_to_words_is_found, write: |plan, codes, numbers, buffer, answe
     (REFERENCE.write)(&cut, codes, numbers, buffer, answer)
 }, "write returned ");
 
+/// caps-3: on the last day.
 #[test]
 fn a_wrong_cap_on_one_day_is_found() {
     let told = found_in_days(|day, answer| match day {
@@ -313,6 +315,7 @@ fn a_wrong_cap_on_one_day_is_found() {
     assert!(told.starts_with("of day 3833: "), "{told}");
 }
 
+/// rows-2: they are counted from 1.
 #[test]
 fn rows_counted_from_0_are_found() {
     let told = found_in_days(|day, answer| {
@@ -349,7 +352,8 @@ fn lenient(account: &[u64]) -> u64 {
     }
 }
 
-/// A meter whose soundness leaves out any one condition is found.
+/// sound-1 to sound-11: a meter whose soundness leaves out any one condition is
+/// found.
 #[test]
 fn every_condition_of_soundness_is_looked_at() {
     let other = Side {

@@ -1,11 +1,14 @@
-//! What `./test` needs besides the toolchain: the runner of edits and the check of the lists of claims, edits and refusal
-//! numbers.
+//! What `./test` needs besides the toolchain: the runner of edits and the check of the lists of rules, claims, edits and
+//! refusal numbers.
 pub mod batch;
 pub mod claims;
+pub mod definitions;
 pub mod edit;
 pub mod folder;
 pub mod list;
+pub mod named;
 pub mod refusals;
+pub mod rules;
 pub mod runner;
 pub mod statements;
 pub mod verdict;

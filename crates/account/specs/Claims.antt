@@ -1,5 +1,5 @@
--- What holds of every account and call, beside the answers themselves: 01, "Account and its calls" and "What each
--- operation declines". Assumes nothing.
+-- What holds of every account and call beside the answers themselves (afford-1, order-2, account-3). Choices
+-- (docs/DECISIONS.md, "Account" and "Afford"): refused Open; effect. Assumes nothing.
 use Prim.Native.Nat.{ℕ}
 use mathlib.Core.Path.{_≡_}
 use mathlib.Core.Bool.{true, false}
@@ -13,24 +13,23 @@ use Rattle.account.specs.Whole.{sound}
 use Rattle.account.specs.Calls.{accepts, step}
 use Rattle.account.specs.Answers.{open-answer, afford-of, Affordable}
 
--- Afford's number: a use of that many units is accepted, and none of more is, whatever the number
+-- afford-1, promise-2: what Afford answers is accepted, and none of more is
 abbrev pub AffordIsLargest : Type 0
 AffordIsLargest = (a : Account) (k : Kind) → Affordable a k (afford-of a k)
 
--- Afford leaves the account as it is
+-- afford-1: Afford leaves the account as it is
 abbrev pub AffordChangesNothing : Type 0
 AffordChangesNothing = (a : Account) (k : Kind) → step a (Afford k) ≡ a
 
--- a refused call hands back the account as it was
+-- order-2: a refused call leaves the account as it is
 abbrev pub RefusedChangesNothing : Type 0
 RefusedChangesNothing = (a : Account) (c : Call) → accepts a c ≡ false → step a c ≡ a
 
--- Open hands out a sound account where it accepts, and one that is not sound where it refuses, so that every call on
--- that one is refused with 0
+-- account-3, order-2: Open hands out a sound account where it accepts, else one that every call refuses with 0
 pub record OpensSound (p : Plan) : Type 0 where
   pub taken : open-answer p .answer ≡ Accepted → sound (open-answer p .account) ≡ true
   pub refused : (n : ℕ) → open-answer p .answer ≡ Refused n → sound (open-answer p .account) ≡ false
 
--- for every plan
+-- account-3, order-2: for every plan
 abbrev pub OpenTellsSound : Type 0
 OpenTellsSound = (p : Plan) → OpensSound p

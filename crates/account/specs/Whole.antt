@@ -1,5 +1,6 @@
--- 01, "Account and its calls": the whole account with its log, when it is sound, and what each accepted call makes of
--- it. Assumes nothing.
+-- The whole account with its log: when it is sound, and what each accepted call makes of it (account-1 to account-3,
+-- sound-1 to sound-11, day-1). Choices (docs/DECISIONS.md, "Soundness" and "Account"): extent; order within a day
+-- change. Assumes nothing.
 use Prim.Native.Nat.{ℕ}
 use mathlib.Core.Bool.{Bool}
 use mathlib.Core.List.{[], _∷_}
@@ -15,7 +16,7 @@ use Rattle.state.specs.Moves.{opened-state, registered, topped, next-state-of}
 use Rattle.state.specs.Sound.{counters-sound, charges-sound}
 use Rattle.account.specs.declared.Account.{Account}
 
--- "An account is sound if": its counters, its charges and balance, its log
+-- sound-1, sound-3, sound-7, refusal-0: counters, charges and balance, log
 unfoldable pub sound : Account → Bool
 sound a = all
     (counters-sound (a .state)
@@ -23,23 +24,23 @@ sound a = all
     ∷ log-within (a .log) (a .state .today) (a .state .logged) (a .state .meters .lifetime)
     ∷ [])
 
--- an account as Open returns it, with an empty log
+-- account-3: a new account, with an empty log
 unfoldable pub opened : Plan → Account
 opened p = record { state = opened-state p; log = replicate 1599 0 }
 
--- Register
+-- register-1: the account registered at the place
 unfoldable pub register-at : Account → Place → Account
 register-at a p = record { state = registered (a .state) p; log = a .log }
 
--- Top-up
+-- topup-1: the account topped up by n
 unfoldable pub top-up-by : Account → ℕ → Account
 top-up-by a n = record { state = topped (a .state) n; log = a .log }
 
--- Use, as a spend of a vector of units u, charged as c
+-- use-1: the account after u units, charged as c
 unfoldable pub spend : Account → Units → Units → Account
 spend a u c = record { state = spent (a .state) u c; log = a .log }
 
--- Next day: today joins the log, then the rest follows from the log with it
+-- day-1: today joins the log, and the rest follows from the log with it
 unfoldable pub day-after : Account → Account
 day-after a = record {
   state = next-state-of (a .state) (joined (a .state .today) (days-of (a .log)));

@@ -1,4 +1,4 @@
-// The largest use that the account affords: document 01, "Account and its calls", Afford.
+// The largest use that the account affords (afford-1).
 use state::State;
 use tariff::Kind;
 ghost use mathlib.Core.Path.{_≡_};

@@ -1,4 +1,4 @@
-// The account, a value that each call takes and hands back with its answer: document 01, "Account and its calls".
+// The account: each call takes it as a value and returns it beside the answer (account-1, form-3).
 pub mod afford;
 pub mod claims;
 

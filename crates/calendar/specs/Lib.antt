@@ -1,2 +1,3 @@
+-- The calendar and the table of month starts.
 pub mod Calendar
 pub mod Table

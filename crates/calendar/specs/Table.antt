@@ -1,11 +1,12 @@
--- 01, "Units and caps": the table of the first days of the months, and its rule. Assumes nothing.
+-- The table of month starts, and the claim that it keeps the calendar (month-2, month-3, form-1). No choice matters
+-- here. Assumes nothing.
 use Prim.Native.Nat.{ℕ, _<_}
 use mathlib.Core.Path.{_≡_}
 use mathlib.Core.List.{List, [], _∷_}
 use lib.ListN.{getD}
 use Rattle.calendar.specs.Calendar.{first-day}
 
--- the table of the 132 month starts, a year to a line: what `MONTH_STARTS` of the code holds
+-- month-2, form-1: the table, a year to a line, as `MONTH_STARTS` of the code holds it
 unfoldable pub month-starts : List ℕ
 month-starts =
     0 ∷ 31 ∷ 59 ∷ 90 ∷ 120 ∷ 151 ∷ 181 ∷ 212 ∷ 243 ∷ 273 ∷ 304 ∷ 334
@@ -21,6 +22,6 @@ month-starts =
     ∷ 3652 ∷ 3683 ∷ 3712 ∷ 3743 ∷ 3773 ∷ 3804 ∷ 3834 ∷ 3865 ∷ 3896 ∷ 3926 ∷ 3957 ∷ 3987
     ∷ []
 
--- each entry is the first day of its month by the Gregorian calendar, over the whole table
+-- month-3, form-1: each entry is its month's first day
 abbrev pub TableKeepsCalendar : Type 0
 TableKeepsCalendar = (k : ℕ) → k < 132 → getD month-starts k 0 ≡ first-day k

@@ -1,6 +1,5 @@
--- Why the match is about the accounts before all cuts and at the end together: two lists whose accounts at the end say
--- nothing of their stretches. And why it is about charged seconds beside units: two lists with the same units, whose
--- accounts differ. Assumes nothing.
+-- Two pairs of lists. The first shows why the match is about the accounts before all cuts and at the end together
+-- (list-9), the second why it asks for charged seconds beside units (half-8). No choice matters here. Assumes nothing.
 use Prim.Native.Nat.{ℕ}
 use mathlib.Core.Path.{_≡_}
 use mathlib.Core.List.{List, [], _∷_}
@@ -17,49 +16,49 @@ use Rattle.machine.specs.Machine.{cuts, stretches}
 use Rattle.ledger.specs.Lists.{run, Taken, account-calls}
 use Rattle.ledger.specs.Demand3.{OpensAs}
 
--- a bundle without volume limit, at no price
+-- aid: a bundle without volume limit, at no price
 abbrev pub free-plan : Plan
 free-plan = record { form = Unlimited; start = 181; pergb = 0; perminute = 0; persms = 0; fee = 0; volume = 0 }
 
--- a kB between two registrations at home
+-- aid: a kB between two registrations at home
 abbrev pub used-between : List Call
 used-between = Register Home ∷ Use Data 1 ∷ Register Home ∷ []
 
--- a kB after both
+-- aid: a kB after both
 abbrev pub used-after : List Call
 used-after = Register Home ∷ Register Home ∷ Use Data 1 ∷ []
 
--- the cuts are the same and the accounts at the end are equal in every field, yet the stretches differ
+-- list-9: same cuts and equal accounts at the end, yet other stretches
 pub record EndsAlike (a : Account) (xs ys : List Call) : Type 0 where
   pub same-cuts : cuts account-calls a xs ≡ cuts account-calls a ys
   pub same-ends : run a xs ≡ run a ys
   pub other-stretches : stretches account-calls a xs ≡ stretches account-calls a ys → ⊥
 
--- so neither the end alone nor the accounts before some of the cuts tell whether the stretches up to there agree
+-- list-9: so the end alone, or some of the cuts, do not tell whether stretches agree
 pub record EndIsNotEnough : Type 0 where
   pub opens : OpensAs free-plan (opened free-plan)
   pub alike : EndsAlike (opened free-plan) used-between used-after
 
--- 02, 3/13: two calls in the zone, one of them under half a minute
+-- aid: two calls in the zone, one of them under half a minute
 abbrev pub short-and-long : List Call
 short-and-long = Register Zone ∷ Use Outgoing 20 ∷ Use Outgoing 40 ∷ []
 
--- two calls of half a minute: as many seconds
+-- aid: two calls of half a minute, as many seconds
 abbrev pub two-halves : List Call
 two-halves = Register Zone ∷ Use Outgoing 30 ∷ Use Outgoing 30 ∷ []
 
--- the units of each stretch, without the charged seconds
+-- aid: the units of each stretch, without the charged seconds
 unfoldable pub units-alone : List Taken → List Units
 units-alone [] = []
 units-alone (t ∷ ts) = t .units ∷ units-alone ts
 
--- cuts and units agree, stretch by stretch, yet the accounts at the end hold x and y charged seconds
+-- half-8: cuts and units agree, yet the accounts hold x and y charged seconds
 pub record UnitsAlike (a : Account) (xs ys : List Call) (x y : ℕ) : Type 0 where
   pub same-cuts : cuts account-calls a xs ≡ cuts account-calls a ys
   pub same-units : units-alone (stretches account-calls a xs) ≡ units-alone (stretches account-calls a ys)
   pub first-charged : run a xs .state .meters .chargedseconds ≡ x
   pub second-charged : run a ys .state .meters .chargedseconds ≡ y
 
--- so a match by the units alone would be false: 70 charged seconds against 60
+-- half-8: 70 charged seconds against 60
 abbrev pub UnitsAreNotEnough : Type 0
 UnitsAreNotEnough = UnitsAlike (opened free-plan) short-and-long two-halves 70 60

@@ -1,6 +1,7 @@
--- 01, "Lists of calls and the book": the book, here the journal, worked out from the opening and the accepted calls
--- alone. Its items, here entries, stand latest first, so that "earlier items" are the rest of the list. Assumes
--- nothing.
+-- The book, here the journal, worked out from the opening and the accepted calls alone (book-1 to book-11, half-9). Its
+-- items, here entries, stand latest first, so that earlier ones are the rest of the list. What it defines anew and what
+-- it shares with the account: docs/DESIGN.md. Choices (docs/DECISIONS.md, "Account" and "Afford"): month's first day,
+-- prepaid; a top-up and marks; in the book. Assumes nothing.
 use Prim.Native.Nat.{ℕ, zero, suc, _+_, _-_, min}
 use mathlib.Core.Bool.{Bool, true, false, not, cond, _&&_, _||_}
 use mathlib.Core.List.{List, [], _∷_, _++_}
@@ -34,21 +35,20 @@ use Rattle.account.specs.declared.Call.the-variants.{Register, Use, TopUp, Next
 use Rattle.account.specs.Calls.{accepts, step}
 use Rattle.ledger.specs.Lists.{units-of, amount-of, marks}
 
--- "An accepted call adds an item: call, day, place (for a registration the new one)."
+-- book-3: an accepted call, with day and place
 pub record Entry : Type 0 where
   pub call : Call
   pub day : ℕ
   pub place : Location
 
--- the book as it is written: its items, the day and the place that the next one gets
+-- book-3, book-4: the items, and the day and place that the next one gets
 pub record Journal : Type 0 where
   pub entries : List Entry
   pub day : ℕ
   pub place : Location
 
--- what the book begins with: the plan; the day, the place, L and the service states; paid in, priced units and sums of
--- cap × units so far; H and R so far; the units and marks of the day so far; the days before it, and how many of them
--- count
+-- book-2: what the book begins with: plan, day, place, L, service states; paid in, priced units and cap sums, H and R
+-- so far; the day's record so far; the days before, and how many count
 pub record Opening : Type 0 where
   pub plan : Plan
   pub day : ℕ
@@ -64,8 +64,7 @@ pub record Opening : Type 0 where
   pub logged : ℕ
   pub services : Services
 
--- of a new account, from what Open got and nothing else: the start day, place none, no numbers, L of the start day's
--- cap, empty days, Clear
+-- book-1, book-2: of a new account, from what Open got alone
 unfoldable pub new-opening : Plan → Opening
 new-opening p = record {
   plan = p;
@@ -83,7 +82,7 @@ new-opening p = record {
   services = record { internet = Clear; calls = Clear; messages = Clear };
 }
 
--- of an account that is not new: what came before the first item is told by its fields
+-- aid to `Demand3FromSound`: of an account in use, from its fields
 unfoldable pub opening-of : Account → Opening
 opening-of a = record {
   plan = a .state .plan;
@@ -101,11 +100,11 @@ opening-of a = record {
   services = a .state .services;
 }
 
--- the book before its first item
+-- book-2: the book before its first item
 unfoldable pub new-journal : Opening → Journal
 new-journal o = record { entries = []; day = o .day; place = o .place }
 
--- "A registration sets the place"
+-- book-4: the place after a call
 unfoldable pub place-after : Location → Call → Location
 place-after w (Register q) = At q
 place-after w (Use k n) = w
@@ -113,7 +112,7 @@ place-after w (TopUp n) = w
 place-after w NextDay = w
 place-after w (Afford k) = w
 
--- "a day change adds 1 to the day"
+-- book-4: the day after a call
 unfoldable pub day-next : ℕ → Call → ℕ
 day-next d (Register q) = d
 day-next d (Use k n) = d
@@ -121,7 +120,7 @@ day-next d (TopUp n) = d
 day-next d NextDay = suc d
 day-next d (Afford k) = d
 
--- one accepted call more
+-- book-3, book-4: one accepted call more
 unfoldable pub enter : Journal → Call → Journal
 enter j c = record {
   entries = record { call = c; day = j .day; place = place-after (j .place) c } ∷ j .entries;
@@ -129,22 +128,22 @@ enter j c = record {
   place = place-after (j .place) c;
 }
 
--- "The book is fed what Open got, the calls' arguments and, of their answers, only whether each was accepted."
+-- book-1: each call, and whether it was accepted
 unfoldable pub answered : Account → List Call → List (Call × Bool)
 answered a [] = []
 answered a (c ∷ cs) = (c, accepts a c) ∷ answered (step a c) cs
 
--- "A refused call adds nothing."
+-- book-5: the book fed with these; a refused call changes nothing
 unfoldable pub write : Journal → List (Call × Bool) → Journal
 write j [] = j
 write j (f ∷ fs) = write (cond (f .1) (enter j (f .0)) j) fs
 
--- "Paid in is the sum of the top-ups."
+-- book-6: the points of all top-ups, after the opening's
 unfoldable pub paid-in : Opening → List Entry → ℕ
 paid-in o [] = o .paid
 paid-in o (e ∷ es) = paid-in o es + amount-of (e .call)
 
--- the location is the place
+-- aid: the location is the place
 unfoldable pub at-place : Place → Location → Bool
 at-place p Nowhere = false
 at-place Home (At Home) = true
@@ -157,8 +156,7 @@ at-place Elsewhere (At Home) = false
 at-place Elsewhere (At Zone) = false
 at-place Elsewhere (At Elsewhere) = true
 
--- 02, 3/13: the units that an item pays for, told from its place and n by the book itself: an outgoing call in the zone
--- that ended before 30 seconds were over pays for 30, and everything else for what was used
+-- half-9, half-1, half-2: the units that an item pays for, told by the book itself
 unfoldable pub charged-of : Location → Call → Units
 charged-of w (Register q) = zero-units
 charged-of w (Use Data n) = each n 0 0 0
@@ -169,49 +167,48 @@ charged-of w (TopUp n) = zero-units
 charged-of w NextDay = zero-units
 charged-of w (Afford k) = zero-units
 
--- an entry's units that a home price can bear on
+-- book-7, book-11: an entry's units that a home price can bear on
 unfoldable pub home-part : Entry → Units
 home-part e = billable (e .place) (charged-of (e .place) (e .call))
 
--- an entry's zone units
+-- book-8, book-11: an entry's zone units
 unfoldable pub zone-part : Entry → Units
 zone-part e = roaming (e .place) (charged-of (e .place) (e .call))
 
--- n where the entry is of the day's month, else 0: months told apart by their number, not by the first days
+-- book-7, book-8: n where the entry is of the day's month, else 0; months told by their number
 unfoldable pub of-month : ℕ → Entry → ℕ → ℕ
 of-month d e n = cond (eqb (month-of (e .day)) (month-of d)) n 0
 
--- n, a sum of the month that the book began in, where the day is of that month, else 0
+-- book-7, book-8: n, a sum of the month that the book began in, where the day is of that month, else 0
 unfoldable pub month-before : Opening → ℕ → ℕ → ℕ
 month-before o d n = cond (eqb (month-of (o .day)) (month-of d)) n 0
 
--- "H is a bundle's home and zone kB in earlier items of the month." A prepaid plan's, which nothing reads, stays as it
--- began.
+-- book-7: H, from earlier items of the month; a prepaid plan's stays as it began
 unfoldable pub monthly-kb : Opening → ℕ → List Entry → ℕ
 monthly-kb o d [] = cond (is-prepaid (o .plan .form)) (o .monthly) (month-before o d (o .monthly))
 monthly-kb o d (e ∷ es) = monthly-kb o d es + of-month d e (counted-kb (o .plan .form) (home-part e .kb))
 
--- priced units of each use, "by the rules of Use", added up
+-- book-11: priced units of each use, added up
 unfoldable pub billed-units : Opening → List Entry → Units
 billed-units o [] = o .billed
 billed-units o (e ∷ es) = billed-units o es ⊕ billed-of (o .plan) (monthly-kb o (e .day) es) (home-part e)
 
--- home charges over all items
+-- book-11: home charges over all items
 unfoldable pub journal-home : Opening → List Entry → ℕ
 journal-home o es = home-charges-of (o .plan) (billed-units o es)
 
--- the place after the entries
+-- book-4: the place after the entries
 unfoldable pub last-place : Opening → List Entry → Location
 last-place o [] = o .place
 last-place o (e ∷ es) = e .place
 
--- a registration comes into the zone from another place or none
+-- book-8: a registration comes into the zone from outside it
 unfoldable pub comes-in : Location → Place → Bool
 comes-in w Home = false
 comes-in w Zone = not (at-place Zone w)
 comes-in w Elsewhere = false
 
--- "its last entry into the zone or top-up there": a call, made at a place, that sets a prepaid L
+-- book-8, book-9, mistake-5: a call, made at a place, that sets a prepaid L
 unfoldable pub sets-allowance : Form → Location → Call → Bool
 sets-allowance f w (Register q) = is-prepaid f && comes-in w q
 sets-allowance f w (Use k n) = false
@@ -219,7 +216,7 @@ sets-allowance f w (TopUp n) = is-prepaid f && at-place Zone w
 sets-allowance f w NextDay = false
 sets-allowance f w (Afford k) = false
 
--- a day change of a bundle, from day d, into another month
+-- book-9: a bundle's day change, from day d, into another month
 unfoldable pub changes-month : Plan → ℕ → Call → Bool
 changes-month p d (Register q) = false
 changes-month p d (Use k n) = false
@@ -227,45 +224,44 @@ changes-month p d (TopUp n) = false
 changes-month p d NextDay = not (is-prepaid (p .form)) && not (eqb (month-of (suc d)) (month-of d))
 changes-month p d (Afford k) = false
 
--- zone kB in the entries of the day's month
+-- book-8: zone kB in the entries of the day's month
 unfoldable pub zone-of-month : Opening → ℕ → List Entry → ℕ
 zone-of-month o d [] = month-before o d (o .roamed)
 zone-of-month o d (e ∷ es) = zone-of-month o d es + of-month d e (zone-part e .kb)
 
--- zone kB since the last entry into the zone or top-up there
+-- book-8: zone kB since a prepaid L was last set
 unfoldable pub zone-since : Opening → List Entry → ℕ
 zone-since o [] = o .roamed
 zone-since o (e ∷ es) = cond (sets-allowance Prepaid (last-place o es) (e .call)) 0 (zone-since o es + zone-part e .kb)
 
--- "R is the zone kB in earlier items: a bundle's of the month, a prepaid plan's since its last entry into the zone or
--- top-up there."
+-- book-8: R of a use after the entries
 unfoldable pub journal-roamed : Opening → ℕ → List Entry → ℕ
 journal-roamed o d es = cond (is-prepaid (o .plan .form)) (zone-since o es) (zone-of-month o d es)
 
--- a day's mark of a place
+-- aid: a day's mark of a place
 unfoldable pub mark-at : Place → Day → Bool
 mark-at Home d = d .home
 mark-at Zone d = d .zone
 mark-at Elsewhere d = d .elsewhere
 
--- a day's units at a place
+-- aid: a day's units at a place
 unfoldable pub units-at : Place → Day → Units
 units-at Home d = d .athome
 units-at Zone d = d .inzone
 units-at Elsewhere d = d .outside
 
--- "A day's marks are the places of its registrations and uses": is the day marked with the place?
+-- book-10: a registration or use of the day was at the place
 unfoldable pub marked-on : Opening → ℕ → Place → List Entry → Bool
 marked-on o d p [] = eqb (o .day) d && mark-at p (o .today)
 marked-on o d p (e ∷ es) = (eqb (e .day) d && (marks (e .call) && at-place p (e .place))) || marked-on o d p es
 
--- a day's units at a place; seconds are those spoken, by which 02, 3/13, has prevalence decided
+-- book-10, half-4: a day's units at a place, seconds as spoken
 unfoldable pub used-on : Opening → ℕ → Place → List Entry → Units
 used-on o d p [] = cond (eqb (o .day) d) (units-at p (o .today)) zero-units
 used-on o d p (e ∷ es) = cond (eqb (e .day) d && at-place p (e .place))
     (used-on o d p es ⊕ units-of (e .call)) (used-on o d p es)
 
--- the day, its marks "with its units"
+-- book-10: a day's marks and units
 unfoldable pub day-of : Opening → ℕ → List Entry → Day
 day-of o d es = record {
   home = marked-on o d Home es;
@@ -276,25 +272,23 @@ day-of o d es = record {
   outside = used-on o d Elsewhere es;
 }
 
--- the first k days from the opening on, the latest first
+-- book-10: the first k days from the opening on, the latest first
 unfoldable pub days : Opening → ℕ → List Entry → List Day
 days o zero es = []
 days o (suc k) es = day-of o (o .day + k) es ∷ days o k es
 
--- the last 123 of them and those before, which are empty days where there were none
+-- book-10: the last 123 of them and those before, empty where there were none
 unfoldable pub last-days : Opening → List Day → List Day
 last-days o ds = take 123 (ds ++ o .days)
 
--- "with its units they give the service states, by the rules of Next day": the states after the first k days from the
--- opening on
+-- book-10: the service states after k days from the opening on
 unfoldable pub journal-services : Opening → ℕ → List Entry → Services
 journal-services o zero es = o .services
 journal-services o (suc k) es = services-after (min 123 (o .logged + suc k))
     (last-days o (days o (suc k) es)) (journal-services o k es)
 
--- "L is as last set by the rules above; the credit in it is paid in less both charges, over the items up to that one."
--- The sums of cap × units are those of the earlier entries, which an entry that sets L leaves as they are: it has no
--- units.
+-- book-9, mistake-2, mistake-4: L after an entry, from the book's own credit. An entry that sets L has no units, so the
+-- cap sums are those of the earlier entries
 unfoldable pub new-allowance : Opening → Entry → List Entry → Allowance → Units → Allowance
 new-allowance o e es old basis =
     cond (sets-allowance (o .plan .form) (last-place o es) (e .call))
@@ -303,7 +297,7 @@ new-allowance o e es old basis =
     (cond (changes-month (o .plan) (e .day) (e .call))
     (plan-allowance (o .plan) (caps-on built-in (suc (e .day)) .kb)) old)
 
--- L after the entries, and the sums of cap × surcharged units of each use, "by the rules of Use"
+-- book-9, book-11: L after the entries, and the cap sums of each use's surcharged units
 unfoldable mutual
   pub journal-allowance : Opening → List Entry → Allowance
   journal-allowance o [] = o .allowance
@@ -317,6 +311,6 @@ unfoldable mutual
       (journal-roamed o (e .day) es)
       (zone-part e)
 
--- surcharges over all items
+-- book-11: surcharges over all items
 unfoldable pub journal-surcharges : Opening → List Entry → ℕ
 journal-surcharges o es = surcharges-of (journal-basis o es)

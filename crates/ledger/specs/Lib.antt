@@ -1,3 +1,4 @@
+-- Lists of calls on an account, in reading order: cuts and stretches, the book, demand 3, two examples.
 pub mod Lists
 pub mod Journal
 pub mod Demand3

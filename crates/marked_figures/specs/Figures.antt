@@ -1,5 +1,6 @@
--- 01, "Figures": the eleven marked figures, six of 02, 1/13, six of 02, 2/13, and seven of 02, 4/13, as one table of
--- tests over the definitions that the contracts cite. Assumes nothing.
+-- The eleven marked figures, six of 1/13, six of 2/13 and seven of 4/13, as one table of tests over the definitions
+-- that the contracts cite (figure-1 to figure-5, promise-3, off-1, off-2, rows-2, fault-1 to fault-3). No choice
+-- matters here beside those of the rules. Assumes nothing.
 use Prim.Native.Nat.{ℕ}
 use mathlib.Core.Path.{_≡_}
 use mathlib.Core.Bool.{Bool, true, false, not}
@@ -23,20 +24,20 @@ use Rattle.presence.specs.declared.Day.{Day}
 use Rattle.presence.specs.declared.Service.the-variants.{DataService}
 use Rattle.presence.specs.Window.{prevalent-long, prevalent-short}
 
--- the allowance is this number of kB
+-- aid: the allowance is this number of kB
 abbrev pub allows : Allowance → ℕ → Bool
 allows NoLimit n = false
 allows (Kilobytes l) n = eqb l n
 
--- a bundle without other prices
+-- aid: a bundle without other prices
 abbrev pub bundle : Form → ℕ → ℕ → Plan
 bundle f fee volume = record { form = f; start = 181; pergb = 0; perminute = 0; persms = 0; fee = fee; volume = volume }
 
--- a prepaid plan with a data price
+-- aid: a prepaid plan with a data price
 abbrev pub prepaid-at : ℕ → Plan
 prepaid-at price = record { form = Prepaid; start = 181; pergb = price; perminute = 0; persms = 0; fee = 0; volume = 0 }
 
--- a plan as it is typed in: form, start day, SMS price, fee and volume; the other prices 0
+-- aid: a plan as it is typed in: form, start day, SMS price, fee and volume; the other prices 0
 abbrev pub typed : Form → ℕ → ℕ → ℕ → ℕ → Plan
 typed f day price fee volume = record {
   form = f;
@@ -48,12 +49,12 @@ typed f day price fee volume = record {
   volume = volume;
 }
 
--- the verdict is a refusal with this number
+-- aid: the verdict is a refusal with this number
 abbrev pub declines : Verdict → ℕ → Bool
 declines Accepted n = false
 declines (Refused m) n = eqb m n
 
--- a day marked zone with kB used there
+-- aid: a day marked zone with kB used there
 abbrev pub zone-kb : ℕ → Day
 zone-kb n = record {
   home = false;
@@ -64,7 +65,7 @@ zone-kb n = record {
   outside = zero-units;
 }
 
--- a day marked home with kB used there
+-- aid: a day marked home with kB used there
 abbrev pub home-kb : ℕ → Day
 home-kb n = record {
   home = true;
@@ -75,7 +76,7 @@ home-kb n = record {
   outside = zero-units;
 }
 
--- a day without marks, so off, on which kB stand in the zone all the same: days alone then decide
+-- aid: a day without marks, so off, on which kB stand in the zone all the same: days alone then decide
 abbrev pub off-kb : ℕ → Day
 off-kb n = record {
   home = false;
@@ -86,56 +87,55 @@ off-kb n = record {
   outside = zero-units;
 }
 
--- the figures, each as a test that holds
+-- figure-1, figure-2, figure-3, figure-4, figure-5, promise-3: the figures, each as a test that holds
 unfoldable pub figures : List Bool
 figures =
-    -- "Fee 900000, cap 77000: L 24512166"
+    -- figure-1, at cap 77000: fee 900000; fee 100000, with 2 GB
     allows (plan-allowance (bundle Unlimited 900000 0) 77000) 24512166
-    -- "Fee 100000: 2723574", with 2 GB
     ∷ allows (plan-allowance (bundle Bundle 100000 2097152) 77000) 2723574
-    -- "Fee 100000 with 3145728 kB is open; with 1048576 it isn't; fee 77000 with 1048576 isn't"
+    -- figure-2: one open bundle, two that are not
     ∷ open-bundle Bundle 100000 77000 3145728
     ∷ not (open-bundle Bundle 100000 77000 1048576)
     ∷ not (open-bundle Bundle 77000 77000 1048576)
-    -- "Prepaid credit 2000, cap 970: L 2162012; that use at 500/GB costs 1030"
+    -- figure-3: the L of a credit, and what so many kB cost
     ∷ allows (credit-allowance 2000 970) 2162012
     ∷ eqb (home-charges-of (prepaid-at 500) (only Data 2162012)) 1030
-    -- prevalence over 123 days of which none is off (02, 1/13): 61 zone days, of 61,000 kB in all, and 62 home days
-    -- without use aren't prevalent; 62 zone days and 61 home days of 1 kB each, so 1 kB more in the zone, are
+    -- figure-4, off-4, none of 123 days off: 61 zone days of 61,000 kB and 62 home days without use fail; 62 zone
+    -- days and 61 home days of 1 kB each prevail, by 1 kB
     ∷ not (prevalent-long DataService 123 (replicate 61 (zone-kb 1000) ++ replicate 62 (home-kb 0)))
     ∷ prevalent-long DataService 123 (replicate 62 (zone-kb 1) ++ replicate 61 (home-kb 1))
-    -- "Day 1460 has data cap 13000, 1461 has 11000"
+    -- figure-5: both sides of a row
     ∷ eqb (caps-on built-in 1460 .kb) 13000
     ∷ eqb (caps-on built-in 1461 .kb) 11000
-    -- 02, 1/13, over 123 days, with more zone kB than others: 1 zone day and 122 off days are prevalent; 1 zone day, 1
-    -- home day and 121 off days aren't; 123 off days aren't
+    -- off-1, off-2, over 123 days with more zone kB than others: 1 zone day and 122 off prevail; 1 zone day, 1 home
+    -- day and 121 off fail; so do 123 off
     ∷ prevalent-long DataService 123 (zone-kb 1 ∷ replicate 122 (off-kb 1))
     ∷ not (prevalent-long DataService 123 (zone-kb 1 ∷ home-kb 0 ∷ replicate 121 (off-kb 1)))
     ∷ not (prevalent-long DataService 123 (replicate 123 (off-kb 1)))
-    -- the same over 15 days
+    -- off-1, off-2: the same over 15 days
     ∷ prevalent-short DataService 15 (zone-kb 1 ∷ replicate 14 (off-kb 1))
     ∷ not (prevalent-short DataService 15 (zone-kb 1 ∷ home-kb 0 ∷ replicate 13 (off-kb 1)))
     ∷ not (prevalent-short DataService 15 (replicate 15 (off-kb 1)))
-    -- 02, 2/13, the rows read of the built-in six: all on the first row's days, 1 from the last row's first day on
+    -- rows-2, of the built-in six: all while the first row holds, 1 once the last one does
     ∷ eqb (search-of built-in 181 .read) 6
     ∷ eqb (search-of built-in 364 .read) 6
     ∷ eqb (search-of built-in 365 .read) 5
     ∷ eqb (search-of built-in 1825 .read) 2
     ∷ eqb (search-of built-in 1826 .read) 1
     ∷ eqb (search-of built-in 3833 .read) 1
-    -- 02, 4/13, two faults at once: price and fee, 17; unused field and price, 1; fee and day, 18
+    -- fault-1, fault-2, fault-3, two faults at once: price and fee; unused field and price; fee and day
     ∷ declines (plan-verdict (typed Bundle 181 1000001 10000001 1)) 17
     ∷ declines (plan-verdict (typed Prepaid 181 1000001 1 0)) 1
     ∷ declines (plan-verdict (typed Bundle 180 0 10000001 1)) 18
-    -- an unused field that is also too large, 1; a bundle with V 0, 18
+    -- fault-1, fault-3: an unused field that is also too large; a bundle with V 0
     ∷ declines (plan-verdict (typed Prepaid 181 0 10000001 0)) 1
     ∷ declines (plan-verdict (typed Bundle 181 0 0 0)) 18
-    -- price and day, 17; everything at the end of its range is accepted
+    -- fault-2: price and day; plan-2, plan-3, plan-4: all at the end of their ranges
     ∷ declines (plan-verdict (typed Bundle 180 1000001 0 1)) 17
     ∷ is-accepted (plan-verdict (typed Bundle 3833 1000000 10000000 1073741824))
     ∷ []
 
--- 01, "Questions to put to a promise": each of the figures holds of the definitions, all in one statement
+-- promise-3: all of them, in one statement
 pub record FiguresHold : Type 0 where
   pub thirty : length figures ≡ 30
   pub hold : all figures ≡ true

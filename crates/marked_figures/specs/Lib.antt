@@ -1,1 +1,2 @@
+-- The marked figures.
 pub mod Figures

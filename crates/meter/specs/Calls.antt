@@ -1,4 +1,5 @@
--- The library for the box: calls on an account in the caller's memory, as numbers. Assumes nothing.
+-- Calls on an account in the caller's memory, as numbers (library-4 to library-7). Choices (docs/DECISIONS.md, "The
+-- library"): another count than 1,649 numbers; arguments of no call; a refused Open; a refused call. Assumes nothing.
 use Prim.Native.Nat.{ℕ}
 use mathlib.Core.Path.{_≡_}
 use mathlib.Core.Bool.{Bool, true, false, cond, _&&_}
@@ -23,49 +24,48 @@ use Rattle.numbers.specs.Numbers.{terms-from, state-numbers, log-part, account-
 use Rattle.numbers.specs.Numbers.{Writable}
 use Rattle.meter.specs.Answers.{bad-argument, verdict-code}
 
--- a call on numbers, by the definition that the account's methods have: its answer, which is 0 where the numbers stand
--- for no account
+-- library-5, library-6: a call's answer, 0 where the numbers stand for no account
 unfoldable pub call-answer : List ℕ → Call → Answer
 call-answer xs c = cond (is-account xs) (applied (account-from xs) c .answer) (Refused 0)
 
--- and the numbers after it
+-- library-5, library-6: the numbers after it. Laws: those of the call on the account (`CallsFollowTheAccount`); the
+-- same on a refusal (`RefusedChangesNoNumber`)
 unfoldable pub call-numbers : List ℕ → Call → List ℕ
 call-numbers xs c = cond (is-account xs) (account-numbers (applied (account-from xs) c .account)) xs
 
--- the numbers of a sound account
+-- library-5: the numbers of a sound account
 unfoldable pub sound-numbers : List ℕ → Bool
 sound-numbers xs = is-account xs && sound (account-from xs)
 
--- does a number stand for a kind? 0 data, 1 outgoing, 2 incoming, 3 SMS
+-- library-4: 0 data, 1 outgoing, 2 incoming, 3 SMS
 abbrev pub is-kind : ℕ → Bool
 is-kind n = leb n 3
 
--- the kind that it stands for
+-- library-4: the kind that it stands for
 unfoldable pub kind-from : ℕ → Kind
 kind-from n = cond (eqb n 0) Data (cond (eqb n 1) Outgoing (cond (eqb n 2) Incoming Sms))
 
--- does a number stand for a place? As in the trip file: 0 home, 1 zone, 2 elsewhere
+-- library-4: as in a trip file, 0 home, 1 zone, 2 elsewhere
 abbrev pub is-place : ℕ → Bool
 is-place n = leb n 2
 
--- the place that it stands for
+-- library-4: the place that it stands for
 unfoldable pub place-named : ℕ → Place
 place-named n = cond (eqb n 0) Home (cond (eqb n 1) Zone Elsewhere)
 
--- a known kind, and room for the answer
+-- library-4: a known kind, and room for the answer
 unfoldable pub kind-with-room : ℕ → ℕ → List ℕ → Bool
 kind-with-room kind size ys = is-kind kind && leb size (length ys)
 
--- Open on a plan's seven numbers, over any numbers of an account: 0 where there are not 1,649 of these, then as the
--- trip file's plan body is judged, an unknown form with 1
+-- library-7, library-5: Open on a plan's seven numbers, 0 where there are not 1,649 numbers
 unfoldable pub open-verdict : List ℕ → List ℕ → Verdict
 open-verdict xs ts = cond (eqb (length xs) 1649) (verdict-of (terms-reasons (terms-from ts))) (Judged.Refused 0)
 
--- what Open returns: 1001 where the plan is not seven numbers
+-- library-4, library-7: what Open returns
 unfoldable pub open-code : List ℕ → List ℕ → ℕ
 open-code xs ts = cond (eqb (length ts) 7) (verdict-code (open-verdict xs ts)) bad-argument
 
--- the numbers of the account that Open hands out, or those that were there
+-- library-7: the new account's numbers, or those that were there
 unfoldable pub open-numbers : List ℕ → List ℕ → List ℕ
 open-numbers xs ts = cond (eqb (length ts) 7 && is-accepted (open-verdict xs ts))
     (account-numbers (open-answer (plan-with (terms-from ts)) .account)) xs

@@ -1,5 +1,6 @@
--- An account as numbers: its log, then all else, group by group. docs/LIBRARY.md has the layout. 01 names the fields;
--- which numbers stand for them, and where, is a choice of docs/DECISIONS.md, "The library". Assumes nothing.
+-- An account as numbers: its log, then all else, group by group (account-2, library-1, library-2). docs/LIBRARY.md has
+-- the layout. Choices (docs/DECISIONS.md, "The library"): zone data limit as a number; a service's state as a number;
+-- order of the numbers. Assumes nothing.
 use Prim.Native.Nat.{ℕ, _+_, _-_}
 use mathlib.Core.Path.{_≡_}
 use mathlib.Core.Bool.{Bool, true, cond, _&&_}
@@ -27,80 +28,80 @@ use Rattle.state.specs.declared.Quota.{Quota}
 use Rattle.state.specs.Sound.{allowance-fits, warning-fits}
 use Rattle.account.specs.declared.Account.{Account}
 
--- a place, or none: 0 none, 1 home, 2 zone, 3 elsewhere
+-- library-2: 0 none, 1 home, 2 zone, 3 elsewhere
 abbrev pub place-number : Location → ℕ
 place-number Nowhere = 0
 place-number (At Home) = 1
 place-number (At Zone) = 2
 place-number (At Elsewhere) = 3
 
--- the place of such a number
+-- library-2: the place of such a number
 abbrev pub place-from : ℕ → Location
 place-from n = cond (eqb n 0) Nowhere (cond (eqb n 1) (At Home) (cond (eqb n 2) (At Zone) (At Elsewhere)))
 
--- L: 0 for none, else one more than its kB
+-- library-2: L, 0 for none, else one more than its kB
 abbrev pub allowance-number : Allowance → ℕ
 allowance-number NoLimit = 0
 allowance-number (Kilobytes l) = l + 1
 
--- the L of such a number
+-- library-2: the L of such a number
 abbrev pub allowance-from : ℕ → Allowance
 allowance-from n = cond (eqb n 0) NoLimit (Kilobytes (n - 1))
 
--- a service's state: 0 Clear, 1 Surcharged, else two more than the day changes since the warning
+-- library-2: 0 Clear, 1 Surcharged, else two more than the age of the warning
 abbrev pub service-number : ServiceState → ℕ
 service-number Clear = 0
 service-number Surcharged = 1
 service-number (Warned k) = k + 2
 
--- the state of such a number
+-- library-2: the state of such a number
 abbrev pub service-from : ℕ → ServiceState
 service-from n = cond (eqb n 0) Clear (cond (eqb n 1) Surcharged (Warned (n - 2)))
 
--- a number for each kind
+-- library-1: a number for each kind
 abbrev pub units-numbers : Units → List ℕ
 units-numbers u = u .kb ∷ u .outgoing ∷ u .incoming ∷ u .sms ∷ []
 
--- a plan, as in the trip file's plan body: form, start day, three prices, fee, V
+-- library-1, file-7: a plan's seven numbers, as a plan body has them
 abbrev pub plan-numbers : Plan → List ℕ
 plan-numbers p = form-word (p .form) ∷ p .start ∷ p .pergb ∷ p .perminute ∷ p .persms ∷ p .fee ∷ p .volume ∷ []
 
--- credit, paid in, home charges, surcharges
+-- library-1, account-2: credit, paid in, home charges, surcharges
 abbrev pub money-numbers : Money → List ℕ
 money-numbers m = m .credit ∷ m .paid ∷ m .homecharges ∷ m .surcharges ∷ []
 
--- lifetime units, charged seconds, priced units, surcharged units, cap sums
+-- library-1, account-2, half-3: lifetime units, charged seconds, priced units, surcharged units, cap sums
 abbrev pub meters-numbers : Meters → List ℕ
 meters-numbers m = units-numbers (m .lifetime)
     ++ (m .chargedseconds ∷ (units-numbers (m .billed) ++ (units-numbers (m .surcharged) ++ units-numbers (m .basis))))
 
--- H, R, L
+-- library-1, account-2: H, R, L
 abbrev pub quota-numbers : Quota → List ℕ
 quota-numbers q = q .monthly ∷ q .roamed ∷ allowance-number (q .allowance) ∷ []
 
--- data, calls, SMS
+-- library-1, account-2, service-1: data, calls, SMS
 abbrev pub services-numbers : Services → List ℕ
 services-numbers s =
     service-number (s .internet) ∷ service-number (s .calls) ∷ service-number (s .messages) ∷ []
 
--- plan, day, place and money: 13 numbers
+-- library-1, account-2: plan, day, place and money: 13 numbers
 abbrev pub front-numbers : State → List ℕ
 front-numbers a = plan-numbers (a .plan) ++ (a .day ∷ place-number (a .place) ∷ money-numbers (a .money))
 
--- how many days are logged, and the services: 4 numbers
+-- library-1, account-2: how many days are logged, and the services: 4 numbers
 abbrev pub end-numbers : State → List ℕ
 end-numbers a = a .logged ∷ services-numbers (a .services)
 
--- all of the account but its log: 50 numbers. A new field's numbers come last
+-- library-1, account-2: all but the log, 50 numbers; a new field's come last
 unfoldable pub state-numbers : State → List ℕ
 state-numbers a = front-numbers a
     ++ (meters-numbers (a .meters) ++ (quota-numbers (a .quota) ++ (numbers-of (a .today) ++ end-numbers a)))
 
--- the units of four numbers of a list, from number i on
+-- aid: the units of four numbers, from number i on
 abbrev pub units-from : List ℕ → ℕ → Units
 units-from ys i = each (getD ys i 0) (getD ys (i + 1) 0) (getD ys (i + 2) 0) (getD ys (i + 3) 0)
 
--- a plan's seven numbers as they come from outside
+-- library-1: a plan's seven numbers as they come from outside
 abbrev pub terms-from : List ℕ → Terms
 terms-from ys = record {
   form = getD ys 0 0;
@@ -112,12 +113,12 @@ terms-from ys = record {
   volume = getD ys 6 0;
 }
 
--- each group from its place among the 50 numbers: money
+-- library-1: money, from its place among the 50
 abbrev pub money-from : List ℕ → Money
 money-from ys =
     record { credit = getD ys 9 0; paid = getD ys 10 0; homecharges = getD ys 11 0; surcharges = getD ys 12 0 }
 
--- the meters
+-- library-1: the meters
 abbrev pub meters-from : List ℕ → Meters
 meters-from ys = record {
   lifetime = units-from ys 13;
@@ -127,12 +128,12 @@ meters-from ys = record {
   basis = units-from ys 26;
 }
 
--- H, R, L
+-- library-1: H, R, L
 abbrev pub quota-from : List ℕ → Quota
 quota-from ys =
     record { monthly = getD ys 30 0; roamed = getD ys 31 0; allowance = allowance-from (getD ys 32 0) }
 
--- the services
+-- library-1: the services
 abbrev pub services-from : List ℕ → Services
 services-from ys = record {
   internet = service-from (getD ys 47 0);
@@ -140,7 +141,7 @@ services-from ys = record {
   messages = service-from (getD ys 49 0);
 }
 
--- all of an account but its log, from its 50 numbers
+-- library-1: all of an account but its log, from its 50 numbers
 unfoldable pub state-from : List ℕ → State
 state-from ys = record {
   plan = plan-with (terms-from ys);
@@ -154,32 +155,31 @@ state-from ys = record {
   services = services-from ys;
 }
 
--- of 1,649 numbers the log's 1,599
+-- library-1: of 1,649 numbers the log's 1,599
 unfoldable pub log-part : List ℕ → List ℕ
 log-part xs = take 1599 xs
 
--- and the others
+-- library-1: and the others
 unfoldable pub rest-part : List ℕ → List ℕ
 rest-part xs = drop 1599 xs
 
--- the numbers of an account
+-- library-1, account-2: the numbers of an account
 unfoldable pub account-numbers : Account → List ℕ
 account-numbers a = a .log ++ state-numbers (a .state)
 
--- the account of numbers
+-- library-1: the account of numbers. Laws: each is the other's (`AccountOfItsNumbers`, `NumbersOfTheirAccount`)
 unfoldable pub account-from : List ℕ → Account
 account-from xs = record { state = state-from (rest-part xs); log = log-part xs }
 
--- form, place and today's marks are numbers that stand for one; every number stands for some L and some state of a
--- service
+-- library-2: form, place and today's marks stand for one; every number stands for some L and some state
 unfoldable pub tags-known : List ℕ → Bool
 tags-known ys = leb (getD ys 0 0) 2 && leb (getD ys 8 0) 3 && leb (getD ys 33 0) 7
 
--- do numbers stand for an account? There are 1,649 of them, with known tags
+-- library-1, library-5: 1,649 numbers with known tags
 unfoldable pub is-account : List ℕ → Bool
 is-account xs = eqb (length xs) 1649 && tags-known (rest-part xs)
 
--- aid: what keeps the numbers of L and of the services' states within the machine's, as in every sound account
+-- aid: what keeps the numbers of L and of the states within the machine's, as in every sound account
 pub record Writable (a : State) : Type 0 where
   pub allowance : allowance-fits (a .quota .allowance) ≡ true
   pub internet : warning-fits (a .services .internet) ≡ true

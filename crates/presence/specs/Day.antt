@@ -1,5 +1,6 @@
--- 01, "Account and its calls": the record of a day (its marks, and its units of each kind at each place), what a day
--- counts as, and the log of days. Assumes nothing.
+-- The record of a day (its marks, and its units of each kind at each place), what the day counts as, and the log of
+-- days (day-1 to day-3, unit-3, use-1). Choices (docs/DECISIONS.md, "Account"): a top-up and marks; place over a day
+-- change; units on a day of another kind. Assumes nothing.
 use Prim.Native.Nat.{ℕ}
 use mathlib.Core.Bool.{Bool, true, false, cond, _||_}
 use mathlib.Core.List.{List, _∷_}
@@ -13,19 +14,19 @@ use Rattle.presence.specs.declared.Day.{Day}
 use Rattle.presence.specs.declared.DayKind.{DayKind}
 use Rattle.presence.specs.declared.DayKind.the-variants.{HomeDay, ZoneDay, OffDay}
 
--- is this place "zone (EU/EEA abroad)"?
+-- unit-3: the place is the zone
 abbrev pub in-zone : Location → Bool
 in-zone Nowhere = false
 in-zone (At Home) = false
 in-zone (At Zone) = true
 in-zone (At Elsewhere) = false
 
--- "place (none at first)": somewhere
+-- unit-3, refusal-3: there is a place
 abbrev pub is-placed : Location → Bool
 is-placed Nowhere = false
 is-placed (At p) = true
 
--- "today is emptied": a day without marks and units
+-- day-3, account-3: a day without marks and units
 abbrev pub empty-day : Day
 empty-day = record {
   home = false;
@@ -36,7 +37,7 @@ empty-day = record {
   outside = zero-units;
 }
 
--- "marks today with the place"
+-- register-1, use-1: the day marked with the place
 unfoldable pub mark-day : Location → Day → Day
 mark-day Nowhere d = d
 mark-day (At Home) d = record {
@@ -64,7 +65,7 @@ mark-day (At Elsewhere) d = record {
   outside = d .outside;
 }
 
--- "its units by kind and place": units joined to those of the place
+-- use-1: the day with units added at the place
 unfoldable pub add-day : Location → Units → Day → Day
 add-day Nowhere u d = d
 add-day (At Home) u d = record {
@@ -92,42 +93,40 @@ add-day (At Elsewhere) u d = record {
   outside = d .outside ⊕ u;
 }
 
--- what keeps these sums within the machine's numbers
+-- aid: what keeps these sums within the machine's numbers
 pub record DayAdds (d : Day) (u : Units) : Type 0 where
   pub home-adds : Adds (d .athome) u
   pub zone-adds : Adds (d .inzone) u
   pub outside-adds : Adds (d .outside) u
 
--- 01, Next day, what a day "counts as": with a mark of home or of elsewhere it is a home day, with a mark of the zone
--- alone a zone day, without marks it is off
+-- day-2: home day, zone day or off
 unfoldable pub counts-as : Day → DayKind
 counts-as d = cond (d .home || d .elsewhere) HomeDay (cond (d .zone) ZoneDay OffDay)
 
--- 1 for a zone day, else 0, by what the day counts as
+-- aid to `zone-day`: by what the day counts as
 abbrev pub one-if-zone : DayKind → ℕ
 one-if-zone HomeDay = 0
 one-if-zone ZoneDay = 1
 one-if-zone OffDay = 0
 
--- "zone days": 1 for a day that is one, else 0
+-- day-2: 1 for a zone day, else 0
 unfoldable pub zone-day : Day → ℕ
 zone-day d = one-if-zone (counts-as d)
 
--- 1 for a home day or a zone day, 0 for an off day, by what the day counts as
+-- aid to `on-day`: by what the day counts as
 abbrev pub one-if-on : DayKind → ℕ
 one-if-on HomeDay = 1
 one-if-on ZoneDay = 1
 one-if-on OffDay = 0
 
--- 02, 1/13, the days "that aren't off": 1 for a day that is one, else 0
+-- off-1: 1 for a day that is not off, else 0
 unfoldable pub on-day : Day → ℕ
 on-day d = one-if-on (counts-as d)
 
--- a day's units of each kind, wherever used
+-- sound-7: a day's units of each kind, wherever used
 abbrev pub day-units : Day → Units
 day-units d = d .athome ⊕ d .inzone ⊕ d .outside
 
--- 01, Next day: the day that ends becomes the newest of the log, and stands first; of more than 123 days the oldest
--- drops out
+-- day-1: the day in front, of 123 at most
 unfoldable pub joined : Day → List Day → List Day
 joined d ds = take 123 (d ∷ ds)

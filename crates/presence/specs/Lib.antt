@@ -1,3 +1,4 @@
+-- Days and services, in reading order: a day, the log, windows, states; then aids, and claims.
 pub mod Day
 pub mod Log
 pub mod Window

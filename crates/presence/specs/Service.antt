@@ -1,5 +1,7 @@
--- 01, "Account and its calls", Next day: the states of the services. Assumes nothing.
-use Prim.Native.Nat.{ℕ, _+_}
+-- The states of the services and their step at a day change (service-1, service-7 to service-10). Choices
+-- (docs/DECISIONS.md, "Services"): Warned; a step a day. Assumes nothing.
+use Prim.Native.Nat.{ℕ, _+_, _<_}
+use mathlib.Core.Path.{_≡_}
 use mathlib.Core.Bool.{Bool, cond, _&&_}
 use mathlib.Core.List.{List}
 use lib.Dec.{leb, ltb}
@@ -11,19 +13,25 @@ use Rattle.presence.specs.declared.ServiceState.the-variants.{Clear, War
 use Rattle.presence.specs.declared.Services.{Services}
 use Rattle.presence.specs.Window.{prevalent-long, prevalent-short}
 
--- one step of a state, by whether 123 days are logged, and whether the service is prevalent over 123 and over 15
+-- service-7, service-8, service-9, service-10: one step, by whether 123 days are logged, and whether it is prevalent
+-- over 123 and over 15
 abbrev pub state-step : Bool → Bool → Bool → ServiceState → ServiceState
 state-step full long short Clear = cond (full && long) (Warned 0) Clear
 state-step full long short (Warned k) = cond (ltb k 14) (Warned (k + 1)) (cond short Surcharged Clear)
 state-step full long short Surcharged = cond long Surcharged Clear
 
--- "Clear becomes Warned if 123 days are logged and prevalent over 123. The 15th day change after that makes it
--- Surcharged if prevalent over 15, else Clear. Surcharged becomes Clear once not prevalent over 123. One step a day."
--- With n days logged, the one just ended among them.
+-- service-7, service-8, service-9: a service's step with n days logged, the ended one among them
 unfoldable pub next-state : Service → ℕ → List Day → ServiceState → ServiceState
 next-state s n ds state = state-step (leb 123 n) (prevalent-long s n ds) (prevalent-short s n ds) state
 
--- "Services: data, calls, SMS"
+-- service-7, service-8, service-10, law: a short log keeps Clear, a warning counts to 14, and Clear is never Surcharged
+-- at once
+pub record StateLaws : Type 0 where
+  pub stays-clear : (s : Service) (n : ℕ) (ds : List Day) → n < 123 → next-state s n ds Clear ≡ Clear
+  pub counts-on : (s : Service) (n k : ℕ) (ds : List Day) → k < 14 → next-state s n ds (Warned k) ≡ Warned (k + 1)
+  pub never-at-once : (s : Service) (n : ℕ) (ds : List Day) → next-state s n ds Clear ≡ Surcharged → ⊥
+
+-- service-1, service-10: each service takes its step
 unfoldable pub services-after : ℕ → List Day → Services → Services
 services-after n ds s = record {
   internet = next-state DataService n ds (s .internet);

@@ -1,5 +1,7 @@
-// Claims about the log as it is kept, and about windows of days, stated in specs/Claims.antt.
+// Claims about the log as it is kept, and about windows of days, stated in specs/Claims.antt, and about the states of
+// the services, in specs/Service.antt.
 ghost use Rattle.presence.specs.Claims.{LogKeepsDays, NumbersAreOfDays, FullWindows, OffDaysOnly};
+ghost use Rattle.presence.specs.Service.{StateLaws};
 
 // Joining a day to the log's numbers joins it to its days; an empty log has empty days.
 pub fn log_keeps_days()
@@ -19,4 +21,9 @@ pub fn full_windows()
 // In a window of off days no service is prevalent.
 pub fn off_days_only()
     ensures { λ _. ⌜ OffDaysOnly ⌝ }
+{}
+
+// Whatever the days: Clear stays while fewer than 123 are logged, Warned counts to 14, Clear never becomes Surcharged.
+pub fn state_laws()
+    ensures { λ _. ⌜ StateLaws ⌝ }
 {}

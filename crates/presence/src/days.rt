@@ -1,4 +1,4 @@
-// A day's marks and units: document 01, "Account and its calls", Register, Use and Next day.
+// A day's marks and units (register-1, use-1, day-2, day-3).
 use super::Day;
 use super::DayKind;
 use super::Location;

@@ -1,5 +1,5 @@
-// A day's marks and units, the log of the last days, and what it makes of the services: document 01, "Account and its
-// calls", Next day.
+// A day's marks and units, the log of the last days, and what it makes of the services (day-1, day-2, service-1 to
+// service-10, off-1 to off-4).
 pub mod claims;
 pub mod days;
 pub mod log;

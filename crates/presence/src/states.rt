@@ -1,4 +1,4 @@
-// The states of the services after a day change: document 01, "Account and its calls", Next day.
+// The states of the services after a day change (service-1, service-7 to service-10).
 use super::ServiceState;
 use super::Services;
 use super::window;

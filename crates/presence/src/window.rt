@@ -1,4 +1,4 @@
-// The sums over the last days, and prevalence: document 01, "Account and its calls", Next day, and 02, 1/13.
+// The sums over the last days, and prevalence (service-2 to service-6, off-1 to off-4).
 use super::Column;
 use super::Day;
 use super::DayKind;

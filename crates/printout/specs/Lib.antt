@@ -1,1 +1,2 @@
+-- The text of a statement.
 pub mod Printout

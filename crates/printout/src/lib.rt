@@ -1,4 +1,4 @@
-// Document 01, "Figures": the text that the program `statement` prints, put into a lent buffer.
+// The text that the program `statement` prints, put into a lent buffer (statement-1 to statement-3).
 use report::Figures;
 use report::Report;
 use tariff::Allowance;

@@ -1,5 +1,5 @@
--- What a use of one kind costs, from that kind's own figures: an aid to Afford, which asks for the cost of many
--- amounts. That it is the cost by 01 is `OneKindsCost` in specs/Claims. Assumes nothing.
+-- Aids to Afford (afford-1): what a use of one kind costs, from that kind's own figures. That this is the cost by the
+-- rules of Use is `OneKindsCost`. Choice (docs/DECISIONS.md, "Afford"): how it is found. Assumes nothing.
 use Prim.Native.Nat.{ℕ, _+_, _-_, _*_, _/_, _≤_, max}
 use mathlib.Core.Bool.{Bool, cond, _&&_}
 use lib.Dec.{leb}
@@ -21,79 +21,79 @@ use Rattle.state.specs.declared.State.{State}
 use Rattle.quotes.specs.declared.Quote.{Quote}
 use Rattle.state.specs.Needs.{bears}
 
--- the points that a sum of price × units, or of cap × units, comes to in a kind
+-- aid: the points that a sum of price or cap by units comes to in a kind
 abbrev pub points : Kind → ℕ → ℕ
 points Data x = x / 1048576
 points Outgoing x = x / 60
 points Incoming x = x / 60
 points Sms x = x
 
--- the plan's price of a kind; incoming seconds have none
+-- aid: the plan's price of a kind; incoming seconds have none
 abbrev pub price-of : Plan → Kind → ℕ
 price-of p Data = p .pergb
 price-of p Outgoing = p .perminute
 price-of p Incoming = 0
 price-of p Sms = p .persms
 
--- the fewest units that a record is charged for
+-- aid: the fewest units that a record is charged for
 abbrev pub least-charged : Location → Kind → ℕ
 least-charged w Data = 0
 least-charged w Outgoing = cond (in-zone w) 30 0
 least-charged w Incoming = 0
 least-charged w Sms = 0
 
--- the charged units that the meter of charged seconds can take yet; only outgoing seconds are charged ones
+-- aid: the charged units that the meter of charged seconds can take yet
 abbrev pub seconds-left : State → Kind → ℕ
 seconds-left a Data = 1000000000000
 seconds-left a Outgoing = 1000000000000 - a .meters .chargedseconds
 seconds-left a Incoming = 1000000000000
 seconds-left a Sms = 1000000000000
 
--- of a plan's kB, those that come before the first that bears the home price, after h others of the month; as many as a
--- use may have where none does
+-- aid: a plan's kB before the first that bears the home price, after h others; as many as a use may have where none
+-- does
 abbrev pub free-kb : Form → ℕ → ℕ → ℕ
 free-kb Prepaid v h = 0
 free-kb Bundle v h = v - h
 free-kb Unlimited v h = 1000000000
 
--- the same of a kind, where the home price bears
+-- aid: the same of a kind, where the home price bears
 abbrev pub free-of : Plan → ℕ → Kind → ℕ
 free-of p h Data = free-kb (p .form) (p .volume) h
 free-of p h Outgoing = 0
 free-of p h Incoming = 1000000000
 free-of p h Sms = 0
 
--- the kB left of the allowance, after r others
+-- aid: the kB left of the allowance, after r others
 abbrev pub left-of : Allowance → ℕ → ℕ
 left-of NoLimit r = 1000000000
 left-of (Kilobytes l) r = l - r
 
--- the units before the first that bears a surcharge: none where the service is Surcharged
+-- aid: the units before the first that bears a surcharge: none where the service is Surcharged
 abbrev pub inside-part : ServiceState → ℕ → ℕ
 inside-part Clear n = n
 inside-part (Warned k) n = n
 inside-part Surcharged n = 0
 
--- the same of a kind, in the zone
+-- aid: the same of a kind, in the zone
 abbrev pub inside-of : Services → Allowance → ℕ → Kind → ℕ
 inside-of s l r Data = inside-part (s .internet) (left-of l r)
 inside-of s l r Outgoing = inside-part (s .calls) 1000000000
 inside-of s l r Incoming = inside-part (s .calls) 1000000000
 inside-of s l r Sms = inside-part (s .messages) 1000000000
 
--- home charges and surcharges of the kind, if c units more are charged
+-- aid: home charges and surcharges of the kind, if c units more are charged
 unfoldable pub quoted : Quote → ℕ → ℕ
 quoted q c =
     points (q .kind) (q .price * (q .billed + (c - q .free)))
     + points (q .kind) (q .basis + q .cap * (c - q .inside))
 
--- what the kind has come to so far
+-- aid: what the kind has come to so far
 abbrev pub spent-so-far : State → Kind → ℕ
 spent-so-far a k =
     points k (price-of (a .plan) k * of-kind k (a .meters .billed))
     + points k (of-kind k (a .meters .basis))
 
--- a kind's own figures
+-- aid: a kind's own figures. Law: the cost is what these come to (`OneKindsCost`)
 unfoldable pub quote-of : State → Kind → Quote
 quote-of a k = record {
   kind = k;
@@ -109,12 +109,12 @@ quote-of a k = record {
   funds = a .money .credit + spent-so-far a k;
 }
 
--- are n units within the meters and the funds?
+-- aid: are n units within the meters and the funds?
 unfoldable pub within-quote : Quote → ℕ → Bool
 within-quote q n =
     leb n (q .room) && leb (max n (q .least)) (q .seconds) && leb (quoted q (max n (q .least))) (q .funds)
 
--- figures that stay within the machine's numbers
+-- aid: figures that stay within the machine's numbers
 pub record Quotable (q : Quote) : Type 0 where
   pub price-most : q .price ≤ 1000000
   pub billed-most : q .billed ≤ 1000000000000

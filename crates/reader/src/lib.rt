@@ -1,4 +1,4 @@
-// Document 01, "Trip file": a reader that refers to the calls section, thin over `decode`.
+// A reader over a calls section, thin over `decode` (reader-1, reader-2, form-7).
 ghost use mathlib.Core.Path.{_≡_};
 ghost use Rattle.reader.specs.Calls.{decoded, position-after};
 ghost use Rattle.reader.specs.Handed.{HandsOutCalls};

@@ -1,5 +1,5 @@
--- 01, "What each operation declines", with 02, 4/13: the numbers that each operation can answer, in the order in which
--- its reasons are looked at. Assumes nothing.
+-- The numbers that each operation can answer, in the order of its reasons (order-1, order-3, order-4). Choice
+-- (docs/DECISIONS.md, "Trip file"): order of 13, 14, 15, 1, 17, 18, 2. Assumes nothing.
 use Prim.Native.Nat.{ℕ}
 use mathlib.Core.Path.{_≡_}
 use mathlib.Core.Bool.{Bool, true, false, _||_}
@@ -18,17 +18,17 @@ use Rattle.sections.specs.Find.{find-reasons}
 use Rattle.tripfile.specs.Reading.{read-reasons}
 use Rattle.tripfile.specs.Writing.{write-reasons}
 
--- the numbers of reasons, in their order
+-- aid: the numbers of reasons, in their order
 unfoldable pub numbers : List Reason → List ℕ
 numbers [] = []
 numbers (r ∷ rs) = r .number ∷ numbers rs
 
--- n is one of the numbers
+-- aid: n is one of the numbers
 unfoldable pub among : ℕ → List ℕ → Bool
 among n [] = false
 among n (m ∷ ms) = eqb n m || among n ms
 
--- each operation's, whatever it is called with; and a refusal tells one of them
+-- order-1, order-3, order-4, fault-4: each operation's numbers; and a refusal tells one of them
 pub record ReasonsInOrder : Type 0 where
   pub of-open : (p : Plan) → numbers (plan-reasons p) ≡ 1 ∷ 17 ∷ 18 ∷ 2 ∷ []
   pub of-register : (a : Account) (p : Place) → numbers (reasons a (Register p)) ≡ 0 ∷ []

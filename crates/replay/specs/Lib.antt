@@ -1,1 +1,2 @@
+-- The calls of a file, run one after the other.
 pub mod Replay

@@ -1,5 +1,4 @@
-// Calls as the trip file codes them, run one after the other on an account. Document 01, "Lists of calls and the book"
-// and "Trip file".
+// Calls as the trip file codes them, run one after the other on an account (file-8, list-2).
 use account::Account;
 use account::Call;
 use reader::Step;

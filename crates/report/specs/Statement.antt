@@ -1,4 +1,5 @@
--- 01, "Figures": what the program `statement` prints of a trip file. Assumes nothing.
+-- What the program `statement` prints of a trip file, as figures (statement-1, statement-2). Choices
+-- (docs/DECISIONS.md, "Statement"): `refused`; L none. Assumes nothing.
 use Prim.Native.Nat.{ℕ}
 use mathlib.Core.List.{List}
 use Rattle.tariff.specs.declared.Plan.{Plan}
@@ -13,7 +14,7 @@ use Rattle.report.specs.declared.Figures.{Figures}
 use Rattle.report.specs.declared.Report.{Report}
 use Rattle.report.specs.declared.Report.the-variants.{Lines, Refused}
 
--- "day; paid in; credit; home charges; surcharges; L (or none); R; lifetime surcharged kB; refused calls"
+-- statement-1: the nine figures
 unfoldable pub figures-with : State → ℕ → Figures
 figures-with s n = record {
   day = s .day;
@@ -27,19 +28,19 @@ figures-with s n = record {
   refused = n;
 }
 
--- those of an account after its calls
+-- statement-1: those of an account after its calls
 abbrev pub figures-of : Replayed → Figures
 figures-of t = figures-with (t .account .state) (t .refused)
 
--- the calls of a file, one after the other, on an account opened under a plan
+-- statement-1, list-2: the calls of a file on an account opened under a plan
 abbrev pub trip-run : List ℕ → Plan → Replayed
 trip-run f p = replay-of (open-answer p .account) (calls-of f)
 
--- a file that is read: its calls under its plan; "A bad file prints one line, `file` and its number"
+-- statement-1, statement-2, form-8: the figures, or the number of a bad file
 unfoldable pub report-on : List ℕ → Read → Report
 report-on f (Told.Trip p n) = Lines (figures-of (trip-run f p))
 report-on f (Told.Refused n) = Refused n
 
--- what is printed of a file's bytes
+-- statement-1, statement-2: of a file's bytes
 unfoldable pub report-of : List ℕ → Report
 report-of f = report-on f (read-of f)

@@ -1,4 +1,4 @@
-// The figures that the program `statement` prints, from the bytes of a trip file. Document 01, "Figures".
+// The figures that the program `statement` prints, from the bytes of a trip file (statement-1, statement-2).
 use state::State;
 use tariff::Allowance;
 use tariff::Plan;

@@ -1,4 +1,4 @@
-// Document 01, "Trip file": the file's length, sum and table, and finding a section. Refusals 10 to 13.
+// A file's length, sum and table, and finding a section (file-2 to file-6, find-1, find-2, refusal-10 to refusal-13).
 ghost use mathlib.Core.Path.{_≡_};
 ghost use mathlib.Core.Bool.{true, cond, _&&_};
 ghost use Prim.Native.Nat.{_+_, _*_, _≤_};

@@ -49,7 +49,7 @@ pub surcharged-adds : (s : Services) (l : Allowance) (r : ℕ) (u v : Units) →
 unfolding surcharged-units
 surcharged-adds s l r u v = simp (part-adds, after-allowance-adds)
 
--- home charges and surcharges are as worked out from the amounts held
+-- both charges are what the sums come to
 pub record Worked (a : State) : Type 0 where
   pub home-is : a .money .homecharges ≡ home-charges-of (a .plan) (a .meters .billed)
   pub extra-is : a .money .surcharges ≡ surcharges-of (a .meters .basis)

@@ -1,10 +1,14 @@
--- 01, "Account and its calls": what opening, registering, topping up and a day change make of all but the log. Assumes
--- nothing.
+-- What opening, registering, topping up and a day change make of all but the log (account-3, limit-4, limit-7,
+-- register-1, register-2, topup-1, topup-2, day-3). Choices (docs/DECISIONS.md, "Account"): month's first day, prepaid;
+-- order within a day change; which cap turns the month; registering in the zone while there; leaving the zone; top-up
+-- outside the zone. Assumes nothing.
 use Prim.Native.Nat.{ℕ, _+_, min}
-use mathlib.Core.Bool.{Bool, not, cond, _&&_}
+use mathlib.Core.Path.{_≡_}
+use mathlib.Core.Bool.{Bool, true, false, not, cond, _&&_}
 use mathlib.Core.List.{List}
 use Rattle.calendar.specs.Calendar.{starts-month}
 use Rattle.tariff.specs.declared.Place.{Place}
+use Rattle.tariff.specs.declared.Place.the-variants.{Zone}
 use Rattle.tariff.specs.declared.Form.{Form}
 use Rattle.tariff.specs.declared.Plan.{Plan}
 use Rattle.tariff.specs.declared.Allowance.{Allowance}
@@ -23,11 +27,11 @@ use Rattle.state.specs.declared.Money.{Money}
 use Rattle.state.specs.declared.Quota.{Quota}
 use Rattle.state.specs.declared.State.{State}
 
--- every service Clear
+-- account-3: every service Clear
 abbrev pub all-clear : Services
 all-clear = record { internet = Clear; calls = Clear; messages = Clear }
 
--- no units yet
+-- account-3: no units yet
 abbrev pub no-meters : Meters
 no-meters = record {
   lifetime = zero-units;
@@ -37,8 +41,7 @@ no-meters = record {
   basis = zero-units;
 }
 
--- an account as Open hands it out: every number 0, every state Clear, place none; L by the plan's form and the start
--- day's cap
+-- account-2, account-3, plan-3, plan-5, limit-4, limit-7: a new account
 unfoldable pub opened-state : Plan → State
 opened-state p = record {
   plan = p;
@@ -52,16 +55,15 @@ opened-state p = record {
   services = all-clear;
 }
 
--- a prepaid account comes into the zone from another place or from none
+-- register-2, mistake-5: a prepaid account comes into the zone
 unfoldable pub enters : Form → Location → Place → Bool
 enters f from to = is-prepaid f && (not (in-zone from) && in-zone (At to))
 
--- where b holds, a new L, from which R counts anew; H stays
+-- register-2, topup-2: where b holds, a new L, and R counts anew; H stays
 abbrev pub renewed-if : Bool → Allowance → Quota → Quota
 renewed-if b l q = record { monthly = q .monthly; roamed = cond b 0 (q .roamed); allowance = cond b l (q .allowance) }
 
--- Register(place): the new place, which today is marked with; on entering the zone a prepaid L from credit and the
--- day's cap
+-- register-1, register-2, mistake-5: the account registered at the place
 unfoldable pub registered : State → Place → State
 registered a p = record {
   plan = a .plan;
@@ -76,11 +78,11 @@ registered a p = record {
   services = a .services;
 }
 
--- a prepaid account is topped up in the zone
+-- topup-2: a prepaid account is topped up in the zone
 unfoldable pub renews : Form → Location → Bool
 renews f w = is-prepaid f && in-zone w
 
--- n points more, in credit and in paid in
+-- topup-1: n points more of credit and paid in
 abbrev pub paid-more : ℕ → Money → Money
 paid-more n m = record {
   credit = m .credit + n;
@@ -89,7 +91,7 @@ paid-more n m = record {
   surcharges = m .surcharges;
 }
 
--- Top-up by n points; in the zone a prepaid L from the new credit
+-- topup-1, topup-2, mistake-2: the account topped up by n
 unfoldable pub topped : State → ℕ → State
 topped a n = record {
   plan = a .plan;
@@ -104,11 +106,11 @@ topped a n = record {
   services = a .services;
 }
 
--- the day is the first of a month, and the plan a bundle
+-- limit-7: a bundle's month begins on the day
 unfoldable pub turns-month : Plan → ℕ → Bool
 turns-month p d = not (is-prepaid (p .form)) && starts-month d
 
--- where b holds, a new month: a new L, and H and R count anew
+-- limit-7: where b holds, a new L, and H and R count anew
 abbrev pub turned-if : Bool → Allowance → Quota → Quota
 turned-if b l q = record {
   monthly = cond b 0 (q .monthly);
@@ -116,8 +118,7 @@ turned-if b l q = record {
   allowance = cond b l (q .allowance);
 }
 
--- Next day, where ds is the log with today in it: the services step, the day grows by 1, a bundle's month may turn,
--- today is emptied
+-- day-1, day-3, limit-7, service-1, mistake-4: the account a day later, where ds is the log with today in it
 unfoldable pub next-state-of : State → List Day → State
 next-state-of a ds = record {
   plan = a .plan;
@@ -131,3 +132,11 @@ next-state-of a ds = record {
   logged = min 123 (a .logged + 1);
   services = services-after (min 123 (a .logged + 1)) ds (a .services);
 }
+
+-- register-2, topup-2, limit-7, mistake-4, mistake-5, law: what leaves H, R and L as they are: registering again in the
+-- zone, a bundle's top-up, a prepaid account's day change
+pub record LimitsKept : Type 0 where
+  pub again : (a : State) → a .place ≡ At Zone → registered a Zone .quota ≡ a .quota
+  pub bundle-topped : (a : State) (n : ℕ) → is-prepaid (a .plan .form) ≡ false → topped a n .quota ≡ a .quota
+  pub prepaid-month : (a : State) (ds : List Day) → is-prepaid (a .plan .form) ≡ true
+      → next-state-of a ds .quota ≡ a .quota

@@ -1,5 +1,5 @@
--- What the code's own helpers ask, so that their sums stay within the machine's numbers. What of 01 recurs here
--- (`bears`) is tied to its rule by the contract of `billable_of`. Assumes nothing.
+-- Aids to `state`: what inner functions ask, so that their sums stay within the machine's numbers. What recurs here of
+-- use-2 (`bears`) is tied to it by the contract of `billable_of`. Assumes nothing.
 use Prim.Native.Nat.{_+_, _≤_, _<_, min}
 use mathlib.Core.Path.{_≡_}
 use mathlib.Core.Bool.{Bool, true, false}
@@ -20,14 +20,14 @@ use Rattle.state.specs.Use.{billable, roaming, billed-after, newly-surch
 use Rattle.state.specs.Use.{home-after, extra-after, cost}
 use Rattle.state.specs.Sound.{chargeable, counters-sound, charges-sound}
 
--- a place where the home price bears
+-- aid: a place where the home price bears
 abbrev pub bears : Location → Bool
 bears Nowhere = false
 bears (At Home) = true
 bears (At Zone) = true
 bears (At Elsewhere) = false
 
--- what a use charged as c makes of the sums
+-- aid: what a use charged as c makes of the sums
 unfoldable pub bill-of : State → Units → Bill
 bill-of a c = record {
   billed = billed-after a c;
@@ -39,33 +39,32 @@ bill-of a c = record {
   zone = roaming (a .place) c .kb;
 }
 
--- the account's counters are sound, and the units charged, which the lifetime units with charged seconds can take, are
--- no more than a use may have
+-- aid: sound counters, and charged units that lifetime units and charged seconds can take, no more than a use may have
 pub record Ready (a : State) (c : Units) : Type 0 where
   pub counters : counters-sound a ≡ true
   pub few : AtMost c (each 1000000000 1000000000 1000000000 1000000000)
   pub room : AtMost (chargeable a ⊕ c) lifetime-most
 
--- what soundness tells of all but the log
+-- aid: what soundness tells of all but the log
 pub record Steady (a : State) : Type 0 where
   pub counters : counters-sound a ≡ true
   pub charges : charges-sound a ≡ true
   pub today : AtMost (day-units (a .today)) (a .meters .lifetime)
 
--- a use charged as c that is not refused, with its bill
+-- aid: a use charged as c that is not refused, with its bill
 pub record Spends (a : State) (c : Units) (b : Bill) : Type 0 where
   pub steady : Steady a
   pub ready : Ready a c
   pub bill-is : b ≡ bill-of a c
   pub affordable : cost a c ≤ a .money .credit
 
--- a day change that is not refused, where the log has today in it
+-- aid: a day change that is not refused, where the log has today in it
 pub record Turns (a : State) (ds : List Day) : Type 0 where
   pub counters : counters-sound a ≡ true
   pub before-end : a .day < 3833
   pub within : AtMost (units-over (min 123 (a .logged + 1)) ds) lifetime-most
 
--- a plan whose fee and volume an allowance can be worked out from
+-- aid: a plan whose fee and volume an allowance can be worked out from
 pub record Payable (p : Plan) : Type 0 where
   pub money : p .fee ≤ 10000000
   pub kilobytes : p .volume ≤ 1073741824

@@ -1,5 +1,5 @@
--- 01, "What each operation declines": the reasons of each call but 0, in 01's order, and a use by them; with 02, 3/13.
--- Assumes nothing.
+-- The reasons of each call but 0, in order, and a use by them (refusal-3 to refusal-9, order-3, half-5). Choices
+-- (docs/DECISIONS.md, "Account"): refusal 5; refusal 5 of charged seconds; refusal 6. Assumes nothing.
 use Prim.Native.Nat.{ℕ, _+_}
 use mathlib.Core.Bool.{Bool, not, cond, _||_}
 use mathlib.Core.List.{List, [], _∷_}
@@ -16,14 +16,12 @@ use Rattle.state.specs.declared.Answer.the-variants as Told
 use Rattle.state.specs.declared.StateApplied.{StateApplied}
 use Rattle.state.specs.Use.{charged-units, cost, spent, charge-of}
 
--- reason 5: the use would take the lifetime units of its kind past 1,000,000,000,000, or (02, 3/13) the lifetime
--- charged seconds
+-- refusal-5, half-5: lifetime units of the kind, or charged seconds, would be over their limit
 unfoldable pub overfills : State → Kind → ℕ → Bool
 overfills a k n = ltb 1000000000000 (of-kind k (a .meters .lifetime) + n)
     || ltb 1000000000000 (a .meters .chargedseconds + charged-units (a .place) k n .outgoing)
 
--- "Use: 3 no place; 4 n outside 1 to 1,000,000,000; 5 lifetime units of the kind would pass 1,000,000,000,000; 6 cost
--- above credit"
+-- order-3, refusal-3, refusal-4, refusal-5, refusal-6: of Use
 unfoldable pub use-reasons : State → Kind → ℕ → List Reason
 use-reasons a k n =
     because 3 (not (is-placed (a .place)))
@@ -32,20 +30,20 @@ use-reasons a k n =
     ∷ because 6 (ltb (a .money .credit) (cost a (charged-units (a .place) k n)))
     ∷ []
 
--- "Top-up: 7 amount outside 1 to 10,000,000; 8 paid in would pass 1,000,000,000"
+-- order-3, refusal-7, refusal-8: of Top-up
 unfoldable pub top-up-reasons : State → ℕ → List Reason
 top-up-reasons a n = because 7 (not (between 1 n 10000000)) ∷ because 8 (ltb 1000000000 (a .money .paid + n)) ∷ []
 
--- "Next day: 9 on day 3833"; a sound account's day is never later
+-- order-3, refusal-9, caps-3: of Next day; a sound account's day is never later
 unfoldable pub next-day-reasons : State → List Reason
 next-day-reasons a = because 9 (leb 3833 (a .day)) ∷ []
 
--- what a call answers: what it answers if it is accepted, or the number of its refusal
+-- form-8, order-2: what an accepted call answers, or the refusal's number
 abbrev pub answer-by : Verdict → Answer → Answer
 answer-by Accepted x = x
 answer-by (Refused n) x = Told.Refused n
 
--- a use on a sound account: its answer, and all but the log
+-- order-2, use-13, use-14, promise-2: a use on a sound account, its answer and all but the log
 unfoldable pub use-state : State → Kind → ℕ → StateApplied
 use-state a k n = record {
   answer = answer-by (verdict-of (use-reasons a k n)) (Told.Charged (charge-of a k (charged-units (a .place) k n)));

@@ -1,4 +1,6 @@
--- 01, "Account and its calls", when an account is sound: all but its log. Assumes nothing.
+-- When an account is sound, but for its log (sound-1 to sound-6, sound-8 to sound-11, half-6). Choices
+-- (docs/DECISIONS.md, "Soundness" and "Account"): extent; the plan in a sound account; charged and spoken seconds in a
+-- sound account. Law: every list of calls keeps it (`SoundStaysSound`). Assumes nothing.
 use Prim.Native.Nat.{_+_, _-_, min}
 use mathlib.Core.Bool.{Bool, true}
 use mathlib.Core.List.{[], _∷_}
@@ -16,50 +18,49 @@ use Rattle.presence.specs.Log.{lifetime-most}
 use Rattle.state.specs.declared.State.{State}
 use Rattle.state.specs.Use.{with-seconds}
 
--- "L is at most 2,000,000,000,000,000"
+-- sound-9: L is none or within its limit
 abbrev pub allowance-fits : Allowance → Bool
 allowance-fits NoLimit = true
 allowance-fits (Kilobytes l) = leb l 2000000000000000
 
--- "Warned counts at most 14"
+-- sound-11: a warning is at most 14 day changes old
 abbrev pub warning-fits : ServiceState → Bool
 warning-fits Clear = true
 warning-fits (Warned k) = leb k 14
 warning-fits Surcharged = true
 
--- 02, 3/13: what priced and surcharged units are held against: the lifetime units, but for outgoing seconds those
--- charged
+-- half-6, sound-6: what bounds priced and surcharged units: lifetime units, but charged seconds for outgoing ones
 abbrev pub chargeable : State → Units
 chargeable a = with-seconds (a .meters .lifetime) (a .meters .chargedseconds)
 
--- the counters, one by one, in 01's order
+-- sound-1, sound-2, sound-5, sound-6, sound-8, sound-9, sound-10, sound-11, half-6: the counters, one by one
 unfoldable pub counters-sound : State → Bool
 counters-sound a = all
-    -- "plan and day keep Open's ranges and the day isn't before the start"
+    -- sound-1: such as Open accepts, and a day from the start on
     (is-accepted (plan-verdict (a .plan))
     ∷ leb (a .plan .start) (a .day)
     ∷ leb (a .day) 3833
-    -- "lifetime units and paid in keep their limits (5, 8)"
+    -- sound-2: limits of lifetime units and of paid in
     ∷ fits (a .meters .lifetime) lifetime-most
-    -- 02, 3/13: the charged seconds keep the limit of the lifetime units
+    -- half-6: charged seconds keep the same limit
     ∷ leb (a .meters .chargedseconds) 1000000000000
     ∷ leb (a .money .paid) 1000000000
-    -- "R, H, priced units, surcharged units ... are at most the lifetime units of their kind"
+    -- sound-5, sound-6: R, H, priced and surcharged units
     ∷ leb (a .quota .roamed) (a .meters .lifetime .kb)
     ∷ leb (a .quota .monthly) (a .meters .lifetime .kb)
     ∷ fits (a .meters .billed) (chargeable a)
     ∷ fits (a .meters .surcharged) (chargeable a)
-    -- "a cap sum is at most 20,000 × its surcharged units"
+    -- sound-8: cap sums; sound-9: L
     ∷ fits (a .meters .basis) (each 20000 20000 20000 20000 ⊗ a .meters .surcharged)
     ∷ allowance-fits (a .quota .allowance)
-    -- "the log has the lesser of 123 and the days since the start"
+    -- sound-10: days logged; sound-11: warnings
     ∷ eqb (a .logged) (min 123 (a .day - a .plan .start))
     ∷ warning-fits (a .services .internet)
     ∷ warning-fits (a .services .calls)
     ∷ warning-fits (a .services .messages)
     ∷ [])
 
--- "home charges and surcharges are as worked out from the amounts held, and paid in = credit + both"
+-- sound-3, sound-4: both charges as worked out, and the balance
 unfoldable pub charges-sound : State → Bool
 charges-sound a = all
     (eqb (a .money .homecharges) (home-charges-of (a .plan) (a .meters .billed))

@@ -1,5 +1,7 @@
--- 01, "Account and its calls", Use, with 02, 3/13: which units bear home price and surcharge, what that makes of the
--- account's sums, and the answer. All but the log: a use leaves the log as it is. Assumes nothing.
+-- What a use is charged for, what that makes of the account's sums, and its answer (use-1 to use-15, half-1 to half-4,
+-- half-7, limit-1, limit-2). A use leaves the log as it is. Choices (docs/DECISIONS.md, "Account"): home price and
+-- surcharge on one kB; use elsewhere; notice; refusal 6; charged seconds; a record is rounded up; units charged, in the
+-- answer. Assumes nothing.
 use Prim.Native.Nat.{ℕ, _+_, _-_, max}
 use mathlib.Core.Bool.{Bool, false, cond, _&&_}
 use lib.Dec.{leb, ltb}
@@ -22,37 +24,36 @@ use Rattle.presence.specs.Day.{in-zone, mark-day, add-day}
 use Rattle.state.specs.declared.State.{State}
 use Rattle.state.specs.declared.Charge.{Charge}
 
--- 02, 3/13: the number of units that a record of n units is charged for, for home price and surcharge alike. An
--- outgoing call in the zone pays for 30 seconds at least; whatever else was used, and wherever, pays for what it is.
+-- half-1, half-2: how many units a record of n pays for. Law: case by case (`FirstHalfMinute`)
 unfoldable pub charged-as : Location → Kind → ℕ → ℕ
 charged-as w Data n = n
 charged-as w Outgoing n = cond (in-zone w) (max n 30) n
 charged-as w Incoming n = n
 charged-as w Sms n = n
 
--- the units that a record is charged for, with none of the other kinds
+-- half-1, half-2: the same as units, none of other kinds
 unfoldable pub charged-units : Location → Kind → ℕ → Units
 charged-units w k n = only k (charged-as w k n)
 
--- units with s outgoing seconds for their own, as the charged ones stand for those spoken
+-- half-6: units with s for their outgoing seconds
 abbrev pub with-seconds : Units → ℕ → Units
 with-seconds u s = each (u .kb) s (u .incoming) (u .sms)
 
--- "Home price bears on home and zone use only": the units that it can bear on
+-- use-2, use-10: the units that the home price can bear on
 unfoldable pub billable : Location → Units → Units
 billable Nowhere u = zero-units
 billable (At Home) u = u
 billable (At Zone) u = u
 billable (At Elsewhere) u = zero-units
 
--- "zone units": those of a use in the zone
+-- use-7, use-8, use-10, limit-1: the zone units of a use
 unfoldable pub roaming : Location → Units → Units
 roaming Nowhere u = zero-units
 roaming (At Home) u = zero-units
 roaming (At Zone) u = u
 roaming (At Elsewhere) u = zero-units
 
--- priced units: kB as the plan's form has it after h kB of the month, outgoing seconds, SMS; never incoming seconds
+-- use-3, use-4, use-5: priced units, after h kB of the month
 unfoldable pub billed-of : Plan → ℕ → Units → Units
 billed-of p h u = record {
   kb = billed-kb (p .form) (p .volume) h (u .kb);
@@ -61,15 +62,13 @@ billed-of p h u = record {
   sms = u .sms;
 }
 
--- surcharged ones of n zone units, of which `past` lie after the allowance: all of them if the service is Surcharged,
--- and none twice
+-- use-8, use-9, mistake-3: of n zone units, `past` of them beyond L, those that bear a surcharge
 unfoldable pub surcharged-of : ServiceState → ℕ → ℕ → ℕ
 surcharged-of Clear past n = past
 surcharged-of (Warned k) past n = past
 surcharged-of Surcharged past n = n
 
--- "Surcharge, at the day's cap" (`basis-after`), "bears on zone kB after the first L of R, and on all zone units of a
--- service whose state is Surcharged", after r zone kB
+-- use-7, use-8: the surcharged ones of zone units z, after r zone kB
 unfoldable pub surcharged-units : Services → Allowance → ℕ → Units → Units
 surcharged-units s l r z = record {
   kb = surcharged-of (s .internet) (after-allowance l r (z .kb)) (z .kb);
@@ -78,32 +77,33 @@ surcharged-units s l r z = record {
   sms = surcharged-of (s .messages) 0 (z .sms);
 }
 
--- "priced units" of the account after a use charged as c
+-- use-11: priced units of the account after a use charged as c
 unfoldable pub billed-after : State → Units → Units
 billed-after a c = a .meters .billed ⊕ billed-of (a .plan) (a .quota .monthly) (billable (a .place) c)
 
--- the units of such a use that bear a surcharge
+-- use-7, use-8, use-14: the units of such a use that bear a surcharge
 unfoldable pub newly-surcharged : State → Units → Units
 newly-surcharged a c = surcharged-units (a .services) (a .quota .allowance) (a .quota .roamed) (roaming (a .place) c)
 
--- "sums of cap × surcharged units" after it: "cap × units is added up over the records"
+-- use-6, use-12: the sums of cap by units after it
 unfoldable pub basis-after : State → Units → Units
 basis-after a c = a .meters .basis ⊕ caps-on built-in (a .day) ⊗ newly-surcharged a c
 
--- home charges "over the account's life" after it
+-- use-11: home charges after it
 unfoldable pub home-after : State → Units → ℕ
 home-after a c = home-charges-of (a .plan) (billed-after a c)
 
--- surcharges after it, "likewise"
+-- use-12: surcharges after it
 unfoldable pub extra-after : State → Units → ℕ
 extra-after a c = surcharges-of (basis-after a c)
 
--- "A call takes from credit what these sums grew by."
+-- use-13, scope-1, mistake-1: what the two charges grow by. Laws: more units cost no less (`CostGrows`); elsewhere it
+-- is 0 (`FreeUse`)
 unfoldable pub cost : State → Units → ℕ
 cost a c = (home-after a c - a .money .homecharges) + (extra-after a c - a .money .surcharges)
 
--- what an accepted use makes of the account: u units used, charged as c. 02, 3/13: beside the lifetime units, in which
--- seconds are those spoken, the account counts outgoing seconds as charged, at every place.
+-- use-1, use-13, limit-1, limit-2, half-3, half-4: the account after u units, charged as c. Law: two uses come to one
+-- of their sum (`UsesAddUp`)
 unfoldable pub spent : State → Units → Units → State
 spent a u c = record {
   plan = a .plan;
@@ -132,12 +132,12 @@ spent a u c = record {
   services = a .services;
 }
 
--- "a notice if R was below L and now isn't"
+-- use-15: R was below L and is not any more
 abbrev pub notice-of : Allowance → ℕ → ℕ → Bool
 notice-of NoLimit before now = false
 notice-of (Kilobytes l) before now = ltb before l && leb l now
 
--- "Answer: home and surcharge points taken, surcharged units, and a notice"; with 02, 3/13, the units charged, too
+-- use-14, use-15, half-7: what a use answers
 unfoldable pub charge-of : State → Kind → Units → Charge
 charge-of a k c = record {
   home = home-after a c - a .money .homecharges;

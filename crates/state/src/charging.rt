@@ -1,4 +1,4 @@
-// What a use is charged, and what it makes of the account: document 01, "Account and its calls", Use, and 02, 3/13.
+// What a use is charged, and what it makes of the account (use-1 to use-15, half-1 to half-7).
 use super::Answer;
 use super::Bill;
 use super::Charge;

@@ -1,5 +1,5 @@
-// All of the account but its log, and what each call makes of it: document 01, "Account and its calls" and "What each
-// operation declines".
+// All of the account but its log, and what each call makes of it (account-2, sound-1 to sound-11, limit-1 to limit-7,
+// register-1, register-2, topup-1, topup-2, use-1 to use-15, day-3, refusal-3 to refusal-9).
 pub mod charging;
 pub mod choice;
 pub mod claims;
@@ -31,7 +31,7 @@ pub struct Meters {
     pub basis: Units,
 }
 
-// H, R and L of document 01.
+// H, R and L (limit-1, limit-2).
 pub struct Quota {
     pub monthly: u64,
     pub roamed: u64,

@@ -1,4 +1,5 @@
-// What opening, registering, topping up and a day change make of the account: document 01, "Account and its calls".
+// What opening, registering, topping up and a day change make of the account (account-3, limit-7, register-1,
+// register-2, topup-1, topup-2, day-3).
 use super::Meters;
 use super::Money;
 use super::Quota;

@@ -1,4 +1,4 @@
-// Soundness of all but the log: document 01, "Account and its calls".
+// Soundness of all but the log (sound-1 to sound-6, sound-8 to sound-11, half-6).
 use super::State;
 use presence::ServiceState;
 use tariff::Allowance;
@@ -64,7 +64,7 @@ fn basis_fits(c: Units, n: Units) -> bool
     kb & outgoing & incoming & sms
 }
 
-// The lesser of 123 and the days since the start.
+// How many days have to be logged (sound-10).
 fn days_logged(start: u64, day: u64) -> u64
     ensures { λ r. ⌜ r ≡ min 123 (day - start) ⌝ }
 {

@@ -1,5 +1,5 @@
-// Prints the statement of the trip file on standard input: document 01, "Figures". It only reads, calls and writes; the
-// text is proved in `printout`.
+// Prints the statement of the trip file on standard input (statement-1). It only reads, calls and writes; the text is
+// proved in `printout`.
 fn main() {
     // Four bytes more than the largest file, so that a longer input is told from it.
     let mut file = [0u8; 65540];

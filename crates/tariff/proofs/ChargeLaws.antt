@@ -1,6 +1,6 @@
 -- Units that follow others, and charges: what adds up, what grows, and how far. Assumes nothing.
 use Prim.Native.Nat.{ℕ, _+_, _-_, _≤_}
-use mathlib.Core.Path.{_≡_, refl}
+use mathlib.Core.Path.{_≡_, refl, sym}
 use native.Mathlib.Nat.{add-assoc, mul-le-mul, mul-le-mul-left}
 use native.Mathlib.Omega.{arith}
 use Rattle.tariff.specs.declared.Units.{Units}
@@ -11,6 +11,7 @@ use Rattle.tariff.specs.declared.Allowance.{Allowance}
 use Rattle.tariff.specs.declared.Allowance.the-variants.{NoLimit, Kilobytes}
 use Rattle.tariff.specs.Units.{AtMost}
 use Rattle.tariff.specs.Charges.{after-first, billed-kb, counted-kb, after-allowance, home-charges-of, surcharges-of, PriceFits, BasisFits}
+use Rattle.tariff.specs.Charges.{AfterFirstLaws}
 
 pub telescope : (x y z : ℕ) → x ≤ y → y ≤ z → (y - x) + (z - y) ≡ z - x
 telescope x y z p q = omega arith
@@ -27,6 +28,15 @@ after-first-bounded l r n = omega arith
 pub after-first-grows : (l r m n : ℕ) → m ≤ n → after-first l r m ≤ after-first l r n
 unfolding after-first
 after-first-grows l r m n h = omega arith
+
+pub after-first-laws : AfterFirstLaws
+unfolding after-first
+after-first-laws = record {
+  first-0 = λ r n. omega arith;
+  up-to = λ l r n h. omega arith;
+  beyond = λ l r n h. omega arith;
+  adds-up = λ l r m n. sym (after-first-adds l r m n);
+}
 
 pub counted-adds : (f : Form) (m n : ℕ) → counted-kb f m + counted-kb f n ≡ counted-kb f (m + n)
 unfolding counted-kb

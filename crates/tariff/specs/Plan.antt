@@ -1,4 +1,6 @@
--- 01, "Plan" and, of the zone data limit L, "Account and its calls"; 02, 4/13, the faults of a plan. Assumes nothing.
+-- The plan, its ranges and faults (plan-1 to plan-7, fault-1 to fault-4, refusal-1, refusal-2), and the zone data limit
+-- that plan or credit give (limit-3 to limit-6). Choices (docs/DECISIONS.md, "Account"): form of a plan; an unused
+-- field that is also too large; V of a bundle that is 0; an unknown form with other faults; prices. Assumes nothing.
 use Prim.Native.Nat.{ℕ, _*_, _/_, _≤_}
 use mathlib.Core.Bool.{Bool, true, false, not, cond, _&&_, _||_}
 use mathlib.Core.List.{List, [], _∷_}
@@ -15,56 +17,54 @@ use Rattle.tariff.specs.declared.PlanAnswer.{PlanAnswer}
 use Rattle.tariff.specs.declared.PlanAnswer.the-variants.{Granted}
 use Rattle.tariff.specs.Tests.{all, between, Reason, because, verdict-of}
 
--- 01, "Plan", names three forms: prepaid, a bundle that includes V kB, and one without volume limit. Is it the first?
+-- plan-1: the form is prepaid
 abbrev pub is-prepaid : Form → Bool
 is-prepaid Prepaid = true
 is-prepaid Bundle = false
 is-prepaid Unlimited = false
 
--- 01, "Plan": each of the three home prices is at most 1,000,000 points; 02, 4/13 gives 17 where one is not
+-- plan-2, fault-2: no price is over 1,000,000
 unfoldable pub prices-in-range : Plan → Bool
 prices-in-range p = leb (p .pergb) 1000000 && leb (p .perminute) 1000000 && leb (p .persms) 1000000
 
--- 01, "Plan": the fee of both sorts of bundles is at most 10,000,000 points, and V is from 1 to 1,073,741,824 where
--- there is one; 02, 4/13 gives 18 where not
+-- plan-3, plan-4, fault-3: fee and V, where the form has them, are in range
 unfoldable pub terms-in-range : Form → Plan → Bool
 terms-in-range Prepaid p = true
 terms-in-range Bundle p = leb (p .fee) 10000000 && between 1 (p .volume) 1073741824
 terms-in-range Unlimited p = leb (p .fee) 10000000
 
--- the start day is in the range that refusal 2 speaks of
+-- plan-5, refusal-2, caps-3: the start day is in range
 abbrev pub start-in-range : Plan → Bool
 start-in-range p = between 181 (p .start) 3833
 
--- 01, "Plan", on unused fields: a prepaid plan has neither fee nor V, an unlimited one neither data price nor V; 02,
--- 4/13 gives 1 where such a field is not 0
+-- plan-6, fault-1, refusal-1: what the form does not use is 0
 unfoldable pub unused-empty : Form → Plan → Bool
 unused-empty Prepaid p = eqb (p .fee) 0 && eqb (p .volume) 0
 unused-empty Bundle p = true
 unused-empty Unlimited p = eqb (p .pergb) 0 && eqb (p .volume) 0
 
--- a plan within 01's ranges: which plans these are, 02, 4/13 leaves as it was
+-- plan-2, plan-3, plan-4, plan-6: a plan within all of these. Law: which plans are accepted is as before 4/13
+-- (`PlansAsBefore`)
 unfoldable pub plan-in-range : Plan → Bool
 plan-in-range p = all (unused-empty (p .form) p ∷ prices-in-range p ∷ terms-in-range (p .form) p ∷ [])
 
--- 01, "Plan": an unlimited bundle is open; one with V kB is so if its fee, as GB at the data cap, comes to less than V
+-- plan-7, unit-1: the bundle is open
 unfoldable pub open-bundle : Form → ℕ → ℕ → ℕ → Bool
 open-bundle Prepaid fee cap volume = false
 open-bundle Bundle fee cap volume = ltb (fee * 1048576) (cap * volume)
 open-bundle Unlimited fee cap volume = true
 
--- L at opening and, of a bundle, on each month's first day: 0 for a prepaid plan (so is R, in `opened-state`); twice
--- what the fee buys at the cap for an open bundle; none for another
+-- limit-3, limit-4, limit-5, limit-6, limit-7, unit-1: L at opening and, of a bundle, as a month begins
 unfoldable pub plan-allowance : Plan → ℕ → Allowance
 plan-allowance p cap =
     cond (is-prepaid (p .form)) (Kilobytes 0)
     (cond (open-bundle (p .form) (p .fee) cap (p .volume)) (Kilobytes (2 * p .fee * 1048576 / cap)) NoLimit)
 
--- L of a prepaid account that enters the zone or is topped up there: credit × 1,048,576 / cap
+-- register-2, topup-2, limit-3, unit-1, promise-2: the prepaid L that a credit gives
 unfoldable pub credit-allowance : ℕ → ℕ → Allowance
 credit-allowance credit cap = Kilobytes (credit * 1048576 / cap)
 
--- 02, 4/13, after 1: 17 a price above its range; 18 fee or V outside its own; then 2, the start day
+-- fault-2, fault-3, fault-4, order-4, refusal-2: 17, 18, then 2
 unfoldable pub amount-reasons : Plan → List Reason
 amount-reasons p =
     because 17 (not (prices-in-range p))
@@ -72,25 +72,25 @@ amount-reasons p =
     ∷ because 2 (not (start-in-range p))
     ∷ []
 
--- "What each operation declines", Open, with 02, 4/13: 1 an unused field that is not 0, however large; then the amounts
+-- refusal-1, refusal-2, fault-1, order-4: Open's reasons, an unused field first
 unfoldable pub plan-reasons : Plan → List Reason
 plan-reasons p = because 1 (not (unused-empty (p .form) p)) ∷ amount-reasons p
 
--- Open on a plan: accepted, or the first of these numbers whose reason holds
+-- order-1: Open on a plan
 unfoldable pub plan-verdict : Plan → Verdict
 plan-verdict p = verdict-of (plan-reasons p)
 
--- forms by number, as 01's trip file has them: 0 prepaid, 1 bundle, 2 unlimited
+-- plan-1, file-7, library-2: the form of a number
 unfoldable pub form-of : ℕ → Form
 form-of w = cond (eqb w 0) Prepaid (cond (eqb w 1) Bundle Unlimited)
 
--- the number of a form, as the writer puts it
+-- file-7, library-2: the number of a form
 abbrev pub form-word : Form → ℕ
 form-word Prepaid = 0
 form-word Bundle = 1
 form-word Unlimited = 2
 
--- the plan of a plan body's seven words
+-- file-7: the plan of seven words
 abbrev pub plan-with : Terms → Plan
 plan-with t = record {
   form = form-of (t .form);
@@ -102,26 +102,26 @@ plan-with t = record {
   volume = t .volume;
 }
 
--- 02, 4/13: 1 also for an unknown form; then the amounts
+-- fault-1, order-4, refusal-1: the same reasons of words, 1 also for an unknown form
 unfoldable pub terms-reasons : Terms → List Reason
 terms-reasons t = because 1 (ltb 2 (t .form) || not (unused-empty (form-of (t .form)) (plan-with t)))
     ∷ amount-reasons (plan-with t)
 
--- the plan, or the number that declines it
+-- form-8: the plan, or the number that declines it
 abbrev pub plan-answer : Verdict → Plan → PlanAnswer
 plan-answer Accepted p = Granted p
 plan-answer (Refused n) p = PlanAnswer.Refused n
 
--- what a plan body's words answer: refusals 1, 17, 18, 2, or the plan
+-- file-7, fault-1, form-8: what a plan body's words answer
 unfoldable pub plan-of : Terms → PlanAnswer
 plan-of t = plan-answer (verdict-of (terms-reasons t)) (plan-with t)
 
--- what keeps these products within the machine's numbers
+-- aid: what keeps `credit-allowance` within the machine's numbers
 pub record CreditFits (credit cap : ℕ) : Type 0 where
   pub money : credit ≤ 1000000000
   pub rate : 1 ≤ cap
 
--- the same for a bundle's products
+-- aid: the same of a bundle's products
 pub record BundleFits (fee cap volume : ℕ) : Type 0 where
   pub money : fee ≤ 10000000
   pub rate : 1 ≤ cap

@@ -1,5 +1,5 @@
--- The rules that a table of caps keeps, as tests: those of 02, 10/13, for caps and days. The built-in table keeps them.
--- Assumes nothing.
+-- Aids to `tariff`: what makes a table of caps right, as tests. The built-in table is right (`RightTables`). No rule
+-- that has landed asks for more tables than that one. Assumes nothing.
 use Prim.Native.Nat.{ℕ, zero, suc, _+_, _*_, _-_, min}
 use mathlib.Core.Bool.{Bool, true, _&&_}
 use mathlib.Core.List.{List, [], _∷_}
@@ -11,28 +11,28 @@ use Rattle.tariff.specs.Tests.{all, between}
 use Rattle.tariff.specs.Units.{each, fits}
 use Rattle.tariff.specs.Caps.{number, row-at}
 
--- a test passes for the caps of each of the first n rows
+-- aid: a test passes for the caps of each of the first n rows
 unfoldable pub each-row : (Units → Bool) → List ℕ → ℕ → Bool
 each-row p xs zero = true
 each-row p xs (suc n) = each-row p xs n && p (row-at xs n .caps)
 
--- each cap is from 1 to m
+-- aid: each cap is from 1 to m
 abbrev pub caps-up-to : ℕ → Units → Bool
 caps-up-to m u = fits (each 1 1 1 1) u && fits u (each m m m m)
 
--- of the first n rows each begins later than the one before it
+-- aid: of the first n rows each begins later than the one before it
 unfoldable pub days-rise : List ℕ → ℕ → Bool
 days-rise xs zero = true
 days-rise xs (suc zero) = true
 days-rise xs (suc (suc i)) = days-rise xs (suc i) && ltb (number xs i 0) (number xs (suc i) 0)
 
--- the n numbers from place i on are 0
+-- aid: the n numbers from place i on are 0
 unfoldable pub nothing-from : List ℕ → ℕ → ℕ → Bool
 nothing-from xs i zero = true
 nothing-from xs i (suc n) = nothing-from xs i n && eqb (getD xs (i + n) 0) 0
 
--- a table is right for a plan's start day: 1 to 8 rows, the first no later than that day, days that rise, caps from 1
--- to 1,000,000, and 0 in the places past the rows, so that its rows are all that it holds
+-- aid: a table is right for a start day: 1 to 8 rows, the first no later than that day, days that rise, caps from 1 to
+-- 1,000,000, and 0 past the rows
 unfoldable pub table-right : Table → ℕ → Bool
 table-right t start =
     let n : ℕ = min 8 (t .count) in

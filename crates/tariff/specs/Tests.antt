@@ -1,4 +1,5 @@
--- Lists of tests, and reasons to decline a call in document 01's order. Assumes nothing.
+-- Tests in a list, and reasons to decline, of which the first that holds gives the number (order-1, form-8). Every
+-- operation's reasons are such a list. No choice matters here. Assumes nothing.
 use Prim.Native.Nat.{ℕ}
 use mathlib.Core.Bool.{Bool, true, false, cond, _&&_}
 use mathlib.Core.List.{List, [], _∷_}
@@ -6,35 +7,36 @@ use lib.Dec.{leb}
 use Rattle.tariff.specs.declared.Verdict.{Verdict}
 use Rattle.tariff.specs.declared.Verdict.the-variants.{Accepted, Refused}
 
--- t and every test of the list pass
+-- aid to `all`: t and every test of the list pass
 abbrev pub all-from : Bool → List Bool → Bool
 all-from t [] = t
 all-from t (u ∷ us) = all-from (t && u) us
 
--- every test of the list passes
+-- aid: every test of the list passes
 unfoldable pub all : List Bool → Bool
 all [] = true
 all (t ∷ ts) = all-from t ts
 
--- n is from l to h
+-- aid: n is from l to h
 abbrev pub between : ℕ → ℕ → ℕ → Bool
 between l n h = leb l n && leb n h
 
--- 01, "What each operation declines": a reason is its number and whether it holds
+-- order-1: a number and whether its reason holds
 pub record Reason : Type 0 where
   pub number : ℕ
   pub holds : Bool
 
--- a reason from its two parts
+-- aid: a reason from its two parts
 abbrev pub because : ℕ → Bool → Reason
 because n b = record { number = n; holds = b }
 
--- the verdict on reasons in 01's order: the number of the first that holds, or accepted where none does
+-- order-1, list-3, form-8: the first number whose reason holds, else accepted. Law: a refusal tells a number of the
+-- list (`ReasonsInOrder`)
 unfoldable pub verdict-of : List Reason → Verdict
 verdict-of [] = Accepted
 verdict-of (r ∷ rs) = cond (r .holds) (Refused (r .number)) (verdict-of rs)
 
--- "accepted if no reason ... holds"
+-- list-3: no reason holds
 abbrev pub is-accepted : Verdict → Bool
 is-accepted Accepted = true
 is-accepted (Refused n) = false

@@ -1,4 +1,4 @@
-// Units by kind: document 01, "Units and caps".
+// Units by kind (unit-2).
 use super::Kind;
 use super::Units;
 ghost use mathlib.Core.Path.{_≡_};

@@ -1,4 +1,4 @@
-// The caps of a day: document 01, "Units and caps", and the search for them, 02, 2/13.
+// The caps of a day, and the search for them (caps-1 to caps-3, rows-1, rows-2).
 use super::Found;
 use super::Row;
 use super::Table;
@@ -7,7 +7,7 @@ ghost use mathlib.Core.Path.{_≡_};
 ghost use Prim.Native.Nat.{_+_, _-_, _*_, _/_, _<_};
 ghost use Rattle.tariff.specs.Caps.{number, row-at, built-in, caps-on, rows-read, search-of, Searchable};
 
-// The rows of document 01, and room for two more.
+// The six rows (caps-1), and room for two more.
 const NUMBERS: [u32; 40] = [
     // from day 181 on
     181,

@@ -1,5 +1,5 @@
-// Which units bear a home price or lie past the limit, and what units come to in points: document 01, "Account and its
-// calls", Use.
+// Which units bear a home price or lie past the limit, and what units come to in points (use-3, use-4, use-7, use-11,
+// use-12, limit-2).
 use super::Allowance;
 use super::Form;
 use super::Plan;

@@ -1,7 +1,8 @@
-// Claims about tables of caps and the search in them, stated in specs/Claims.antt, and about the faults of a plan, in
-// specs/Faults.antt.
+// Claims about tables of caps and the search in them, stated in specs/Claims.antt, about the faults of a plan, in
+// specs/Faults.antt, and about units past a limit, in specs/Charges.antt.
 ghost use Rattle.tariff.specs.Claims.{RowsOfTable, SearchFindsCaps, RowsRead, RowsTellDays, RightTables};
 ghost use Rattle.tariff.specs.Faults.{PlansAsBefore};
+ghost use Rattle.tariff.specs.Charges.{AfterFirstLaws};
 
 // Every list of rows has a table.
 pub fn rows_of_table()
@@ -31,4 +32,9 @@ pub fn right_tables()
 // With 02, 4/13 the plans accepted are those of 01, and 17 and 18 are what 01 told as 1.
 pub fn plans_as_before()
     ensures { λ _. ⌜ PlansAsBefore ⌝ }
+{}
+
+// Units past a limit: all of them past 0 or once it is reached, none up to it, as many for a record split in two.
+pub fn after_first_laws()
+    ensures { λ _. ⌜ AfterFirstLaws ⌝ }
 {}

@@ -1,5 +1,5 @@
-// Units and caps, and the plan: document 01, "Units and caps" and "Plan", with the sums that its section on the account
-// works out from them; and 02, 2/13, the search for the caps of a day.
+// Units and caps, the plan, and what an account works out from them (unit-1, unit-2, caps-1 to caps-3, plan-1 to
+// plan-7, limit-3 to limit-6, use-11, use-12, rows-1 to rows-3, fault-1 to fault-4).
 pub mod amounts;
 pub mod caps;
 pub mod charges;
@@ -82,7 +82,7 @@ pub enum Allowance {
     Kilobytes(u64),
 }
 
-// Accepted, or refused with document 01's number.
+// Accepted, or refused with a number (order-1).
 pub enum Verdict {
     Accepted,
     Refused(u64),

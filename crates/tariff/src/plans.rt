@@ -1,4 +1,5 @@
-// Which plans are accepted, and the zone data limit that a plan gives: document 01, "Plan", and 02, 4/13.
+// Which plans are accepted, and the zone data limit that a plan gives (plan-1 to plan-7, limit-3 to limit-6, fault-1 to
+// fault-4).
 use super::Allowance;
 use super::Form;
 use super::Plan;

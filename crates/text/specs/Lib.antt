@@ -1,2 +1,3 @@
+-- Text in a buffer, and the claim about decimal numbers.
 pub mod Text
 pub mod Claims

@@ -1,4 +1,4 @@
-// Document 01, "Trip file": a plan and its calls, read from a file and written to a buffer.
+// A plan and its calls, read from a file and written to a buffer (file-7 to file-9, write-1, write-2).
 mod calls;
 pub mod reading;
 pub mod writing;

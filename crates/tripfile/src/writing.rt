@@ -99,7 +99,7 @@ fn put_calls(s: &mut [u8], codes: &[u32], numbers: &[u32])
     }
 }
 
-// Writes the whole file, each body into the buffer from its start on, and last the word that makes the sum 0.
+// Writes the whole file, each body at its own place in the buffer (form-6), and last the word that makes the sum 0.
 fn fill(plan: Plan, codes: &[u32], numbers: &[u32], buf: &mut [u8])
     requires { ⌜ Ready plan (now codes) (now numbers) (length (now buf)) ⌝ }
     ensures { λ _. ⌜ now (buf .exit)

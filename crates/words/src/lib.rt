@@ -1,4 +1,4 @@
-// Document 01, "Trip file": the little-endian u32 words of a slice of bytes.
+// The little-endian u32 words of a slice of bytes, and their wrapping sum (file-1, file-3, form-2).
 ghost use mathlib.Core.Path.{_≡_};
 ghost use mathlib.Core.List.{_++_};
 ghost use Prim.Native.Nat.{_+_, _*_, _%_, _≤_, _<_};

@@ -1,4 +1,5 @@
-//! Accounts at the edge of a condition of soundness, or past it by one.
+//! Accounts at the edge of a condition of soundness, or past it by one. Rules
+//! sound-1 to sound-11, half-6, library-5.
 
 use super::{balance, charges, fill_days, mark_days, stand_on};
 use super::{FIRST_DAY, LAST_DAY, LIFETIME_LIMIT, LIMIT_LIMIT, PAID_LIMIT};
@@ -58,7 +59,7 @@ pub fn at_edge(rng: &mut Rng, condition: Condition, past: bool) -> Box<Numbers> 
     all
 }
 
-/// A condition of the plan; prices move the charges.
+/// sound-1: a condition of the plan; prices move the charges.
 fn put_plan(all: &mut Numbers, condition: Condition, by: u64) {
     let (field, value) = match condition {
         Condition::Form => (0, 2 + by),
@@ -77,7 +78,7 @@ fn put_plan(all: &mut Numbers, condition: Condition, by: u64) {
     balance(all, all[at::CREDIT]);
 }
 
-/// A condition of day and log length.
+/// sound-1, sound-10: a condition of day and log length.
 fn put_day(rng: &mut Rng, all: &mut Numbers, condition: Condition, by: u64) {
     let blank = |all: &mut Numbers| all[at::LOG..at::PLAN].fill(0);
     match condition {
@@ -113,7 +114,8 @@ fn put_day(rng: &mut Rng, all: &mut Numbers, condition: Condition, by: u64) {
     }
 }
 
-/// A condition of marks, places past the logged days, and warnings.
+/// sound-11: a condition of warnings; sound-10: of marks in the log, and of
+/// places past the logged days; library-2: of today's marks.
 fn put_log(rng: &mut Rng, all: &mut Numbers, condition: Condition, by: u64) {
     let warned = soundness::WARNED.iter().position(|one| *one == condition);
     if let Some(service) = warned {
@@ -142,7 +144,7 @@ fn put_log(rng: &mut Rng, all: &mut Numbers, condition: Condition, by: u64) {
     }
 }
 
-/// A condition of units.
+/// sound-2, sound-5 to sound-9, half-6: a condition of units.
 fn put_units(rng: &mut Rng, all: &mut Numbers, condition: Condition, by: u64) {
     let kind = |of: [Condition; 4]| of.iter().position(|one| *one == condition);
     let bound = |k: usize| {
@@ -200,7 +202,8 @@ fn lone_units(all: &mut Numbers, k: usize) {
     }
 }
 
-/// Units of today or of a logged day that make up all the lifetime units.
+/// sound-7: units of today or of a logged day that make up all the lifetime
+/// units.
 fn put_days(rng: &mut Rng, all: &mut Numbers, k: usize, by: u64) {
     lone_units(all, k);
     all[at::PRICED + k] = 0;
@@ -219,7 +222,7 @@ fn put_days(rng: &mut Rng, all: &mut Numbers, k: usize, by: u64) {
     }
 }
 
-/// A condition of money.
+/// sound-2 to sound-4: a condition of money.
 fn put_money(rng: &mut Rng, all: &mut Numbers, condition: Condition, by: u64) {
     if condition == Condition::PaidIn {
         let credit = PAID_LIMIT + by - charges(all);

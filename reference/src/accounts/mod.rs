@@ -1,6 +1,7 @@
 //! Accounts for the comparison, as numbers: those that lists lead to, sound
 //! ones that no list leads to, and other numbers to damage them with. Accounts
-//! at the edge of a condition of soundness are in `edges`.
+//! at the edge of a condition of soundness are in `edges`. Rules sound-1 to
+//! sound-11, half-6.
 
 pub mod edges;
 
@@ -12,9 +13,13 @@ use crate::rng::Rng;
 use crate::services::LOG_DAYS;
 use crate::terms::GB;
 
+/// sound-2: the most lifetime units (refusal-5).
 const LIFETIME_LIMIT: u64 = 1_000_000_000_000;
+/// sound-2: the most that is paid in (refusal-8).
 const PAID_LIMIT: u64 = 1_000_000_000;
+/// sound-9: the largest L.
 const LIMIT_LIMIT: u64 = 2_000_000_000_000_000;
+/// sound-1: the days of an account (refusal-2).
 const LAST_DAY: u64 = 3833;
 const FIRST_DAY: u64 = 181;
 /// No sort of charge of a made account is over this, so that all of them
@@ -90,8 +95,8 @@ fn some_day(rng: &mut Rng) -> u64 {
     }
 }
 
-/// Puts an account with an empty log on a day, so many days after its start or
-/// as many as there can be.
+/// sound-10: puts an account with an empty log on a day, so many days after its
+/// start or as many as there can be.
 fn stand_on(all: &mut Numbers, day: u64, since: u64) {
     let since = since.min(day - FIRST_DAY);
     all[at::PLAN + 1] = day - since;
@@ -99,8 +104,8 @@ fn stand_on(all: &mut Numbers, day: u64, since: u64) {
     all[at::LOGGED] = since.min(LOG_DAYS as u64);
 }
 
-/// Spreads up to so many units of a kind over today and the logged days. Where
-/// there are few, most places stay 0.
+/// sound-7: spreads up to so many units of a kind over today and the logged
+/// days. Where there are few, most places stay 0.
 fn fill_days(rng: &mut Rng, all: &mut Numbers, k: usize, units: u64) {
     let logged = all[at::LOGGED] as usize;
     let places = 3 * (logged as u64 + 1);
@@ -143,8 +148,8 @@ fn mark_days(rng: &mut Rng, all: &mut Numbers) {
     }
 }
 
-/// Priced and surcharged units with their cap sums, charges, credit and what
-/// was paid in.
+/// sound-6, sound-8, half-6: priced and surcharged units with their cap sums;
+/// charges, credit and what was paid in.
 fn charge(rng: &mut Rng, all: &mut Numbers) {
     let divisors = [GB, 60, 60, 1];
     let prices = [2, 3, 0, 4].map(|field| all[at::PLAN + field]);
@@ -169,7 +174,7 @@ fn charge(rng: &mut Rng, all: &mut Numbers) {
     balance(all, credit);
 }
 
-/// Both charges from the amounts held.
+/// sound-3: both charges from the amounts held.
 fn charges(all: &Numbers) -> u64 {
     home_charges(all) + surcharges(all)
 }
@@ -185,7 +190,8 @@ fn surcharges(all: &Numbers) -> u64 {
     sums[0] / GB + sums[1] / 60 + sums[2] / 60 + sums[3]
 }
 
-/// Puts the charges in their places, with a credit, and what was paid in.
+/// sound-4: puts the charges in their places, with a credit, and what was paid
+/// in.
 fn balance(all: &mut Numbers, credit: u64) {
     all[at::HOME_CHARGES] = home_charges(all);
     all[at::SURCHARGES] = surcharges(all);
@@ -193,7 +199,7 @@ fn balance(all: &mut Numbers, credit: u64) {
     all[at::PAID] = credit + all[at::HOME_CHARGES] + all[at::SURCHARGES];
 }
 
-/// H, R and L, often near V and near each other.
+/// sound-5, sound-9: H, R and L, often near V and near each other.
 fn limits(rng: &mut Rng, all: &mut Numbers) {
     let data = all[at::LIFETIME];
     let volume = all[at::PLAN + 6];

@@ -1,11 +1,12 @@
-//! Reads a trip file from standard input and prints its statement.
+//! Reads a trip file and prints its statement. Rules statement-1, statement-2.
 
 use reference::statement::statement;
 use reference::tripfile::MAX_FILE;
 use std::io::{self, Read, Write};
 
 fn main() -> io::Result<()> {
-    // One byte over the limit is enough to know that a file is too long.
+    // refusal-10: one byte over the limit is enough to know that a file is too
+    // long.
     let mut bytes = Vec::new();
     let mut input = io::stdin().lock().take(MAX_FILE as u64 + 1);
     input.read_to_end(&mut bytes)?;

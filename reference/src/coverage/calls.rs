@@ -1,5 +1,7 @@
 //! Events of single calls: what is refused, registrations and top-ups. Those of
 //! accepted uses and of Afford are in `uses`, those of day changes in `days`.
+//! Rules register-1, register-2, topup-1, topup-2, refusal-3 to refusal-8,
+//! order-3, library-4.
 
 use super::returns::Function;
 use super::seen::{Observed, Seen};
@@ -10,7 +12,8 @@ use crate::meter::{LEAST_CHARGED, MAX_LIFETIME, MAX_PAID_IN, MAX_TOP_UP, MAX_UNI
 use crate::sides::{Step, ACCEPTED, BAD_ARGUMENT};
 use crate::terms::{Kind, Place};
 
-/// Registrations by the place before (none, home, zone, elsewhere).
+/// register-1, register-2: registrations by the place before (none, home, zone,
+/// elsewhere).
 const REGISTERED: [[&str; 3]; 4] = [
     [
         "registered at home from nowhere",
@@ -34,7 +37,7 @@ const REGISTERED: [[&str; 3]; 4] = [
     ],
 ];
 
-/// Refusal 5, by kind.
+/// refusal-5, by kind.
 const FULL: [&str; 4] = [
     "use 5, data",
     "use 5, outgoing seconds",
@@ -42,6 +45,7 @@ const FULL: [&str; 4] = [
     "use 5, SMS",
 ];
 
+/// register-2, topup-2: what sets L or leaves it.
 const PLACED: &[&str] = &[
     "entry into the zone again",
     "prepaid L 0 on entry",
@@ -54,6 +58,7 @@ const PLACED: &[&str] = &[
     "top-up on a day without marks, at a place",
 ];
 
+/// refusal-3 to refusal-5, refusal-7, refusal-8, and their order (order-3).
 const REFUSED: &[&str] = &[
     "use 4, no units",
     "use 4, one unit too many",
@@ -129,7 +134,8 @@ impl TripEvents {
         Ok(())
     }
 
-    /// Arguments that are of no call. A known kind means a short answer.
+    /// library-4: arguments that are of no call. A known kind means a short
+    /// answer.
     fn no_call(&mut self, step: Step) {
         let wide = 1 << 32;
         match step {
@@ -151,7 +157,7 @@ impl TripEvents {
         }
     }
 
-    /// The same on numbers that are no sound account.
+    /// library-4: the same on numbers that are no sound account.
     pub fn no_call_before_0(&mut self, step: Step, returned: u64) {
         if returned == BAD_ARGUMENT {
             match step {

@@ -1,6 +1,7 @@
-//! Why a file must be declined, worked out from its bytes by 01's rules, with
-//! none of the code that reads it. The functions for one number take for granted
-//! that those of smaller numbers found nothing.
+//! Why a file must be declined, worked out from its bytes, with none of the
+//! code that reads it. The functions for one number take for granted that those
+//! of smaller numbers found nothing. Rules file-1 to file-8, refusal-10 to
+//! refusal-15, order-4.
 
 use crate::faults::{faults_of, first_number, Words};
 use crate::sides::ACCEPTED;
@@ -9,6 +10,7 @@ use crate::tripfile::{CALLS_KIND, MAX_FILE, PLAN_KIND};
 /// Of one reason's causes, those that hold.
 pub type Causes = Vec<&'static str>;
 
+/// refusal-10: its causes.
 pub const OF_10: [&str; 6] = [
     "read 10, under 4 bytes",
     "read 10, 4 to 11 bytes",
@@ -18,6 +20,7 @@ pub const OF_10: [&str; 6] = [
     "read 10, first word smaller",
 ];
 
+/// refusal-12: its causes.
 pub const OF_12: [&str; 10] = [
     "read 12, no sections",
     "read 12, over 8 sections",
@@ -31,6 +34,7 @@ pub const OF_12: [&str; 10] = [
     "read 12, last body ends beyond the file",
 ];
 
+/// refusal-13: its causes.
 pub const OF_13: [&str; 4] = [
     "read 13, no plan",
     "read 13, two plans",
@@ -38,6 +42,7 @@ pub const OF_13: [&str; 4] = [
     "read 13, two lists of calls",
 ];
 
+/// refusal-14: its causes.
 pub const OF_14: [&str; 4] = [
     "read 14, plan too short",
     "read 14, plan too long",
@@ -45,6 +50,7 @@ pub const OF_14: [&str; 4] = [
     "read 14, half a call",
 ];
 
+/// refusal-15: its causes.
 pub const OF_15: [&str; 4] = [
     "read 15, code 0",
     "read 15, code over 7",
@@ -52,7 +58,7 @@ pub const OF_15: [&str; 4] = [
     "read 15, day change with a number",
 ];
 
-/// An entry of the table.
+/// file-5: an entry of the table.
 #[derive(Clone, Copy, Debug)]
 pub struct Entry {
     pub kind: u32,
@@ -89,13 +95,13 @@ pub fn of_10(bytes: &[u8]) -> Causes {
     some(&OF_10, &holds)
 }
 
-/// Whether the words do not add up to 0.
+/// refusal-11: whether the words do not add up to 0.
 pub fn is_11(bytes: &[u8]) -> bool {
     let words = (0..bytes.len() / 4).map(|index| u64::from(word(bytes, index)));
     words.sum::<u64>() % (1 << 32) != 0
 }
 
-/// The table, if its count is right and it fits.
+/// file-4, file-5: the table, if its count is right and it fits.
 pub fn entries(bytes: &[u8]) -> Option<Vec<Entry>> {
     let count = word(bytes, 2) as usize;
     if !(1..=8).contains(&count) || 12 + 12 * count > bytes.len() {
@@ -150,7 +156,7 @@ pub fn of_13(entries: &[Entry]) -> Causes {
     some(&OF_13, &[plans == 0, plans > 1, calls == 0, calls > 1])
 }
 
-/// Of all sections of the two kinds, should there be several.
+/// refusal-14, of all sections of the two kinds, should there be several.
 pub fn of_14(entries: &[Entry]) -> Causes {
     let any = |kind: u32, holds: fn(u32) -> bool| {
         let mut all = entries.iter().filter(|entry| entry.kind == kind);
@@ -170,7 +176,7 @@ pub fn body<'a>(bytes: &'a [u8], entry: &Entry) -> &'a [u8] {
     &bytes[entry.start as usize..][..entry.length as usize]
 }
 
-/// Of the whole calls in a body.
+/// refusal-15, of the whole calls in a body.
 pub fn of_15(body: &[u8]) -> Causes {
     let mut holds = [false; 4];
     for index in 0..body.len() / 8 {
@@ -183,7 +189,8 @@ pub fn of_15(body: &[u8]) -> Causes {
     some(&OF_15, &holds)
 }
 
-/// The table of a file, or the number that declines it: 10, 11, 12.
+/// refusal-10 to refusal-12: the table of a file, or the number that declines
+/// it.
 pub fn table(bytes: &[u8]) -> Result<Vec<Entry>, u64> {
     if !of_10(bytes).is_empty() {
         Err(10)
@@ -196,7 +203,7 @@ pub fn table(bytes: &[u8]) -> Result<Vec<Entry>, u64> {
     }
 }
 
-/// What reading a file must return.
+/// order-4: what reading a file must return.
 pub fn of_reading(bytes: &[u8]) -> u64 {
     let entries = match table(bytes) {
         Ok(entries) => entries,
@@ -218,7 +225,7 @@ pub fn of_reading(bytes: &[u8]) -> u64 {
     plan_words(body(PLAN_KIND)).map_or(14, |words| of_plan(&words))
 }
 
-/// What a plan of seven numbers must get.
+/// order-4: what a plan of seven numbers must get.
 pub fn of_plan(words: &Words) -> u64 {
     match first_number(&faults_of(words)) {
         0 => ACCEPTED,
@@ -226,7 +233,8 @@ pub fn of_plan(words: &Words) -> u64 {
     }
 }
 
-/// What finding a section must return, and its answer where it is found.
+/// order-4: what finding a section must return, and its answer where it is
+/// found.
 pub fn of_finding(bytes: &[u8], kind: u32) -> Result<[u64; 2], u64> {
     let entries = table(bytes)?;
     let mut found = entries.iter().filter(|entry| entry.kind == kind);
@@ -236,7 +244,7 @@ pub fn of_finding(bytes: &[u8], kind: u32) -> Result<[u64; 2], u64> {
     }
 }
 
-/// The seven words of a plan's body, if it has as many.
+/// file-7: the seven words of a plan's body, if it has as many.
 pub fn plan_words(body: &[u8]) -> Option<Words> {
     (body.len() == 28).then(|| std::array::from_fn(|i| u64::from(word(body, i))))
 }

@@ -1,4 +1,6 @@
-//! Events of day changes: months, what days count as, and the services.
+//! Events of day changes: months, what days count as, and the services. Rules
+//! day-1 to day-3, service-2 to service-10, off-1 to off-4, limit-7, month-2,
+//! month-3.
 
 use super::seen::{Observed, Seen, Sums};
 use super::TripEvents;
@@ -7,6 +9,7 @@ use crate::caps::caps_on;
 use crate::services::{State, LOG_DAYS, SHORT_DAYS};
 use crate::terms::{Place, Service};
 
+/// service-7 to service-10: the steps of each service.
 const WARNED: [&str; 3] = ["data warned", "calls warned", "SMS warned"];
 const SURCHARGED: [&str; 3] = ["data surcharged", "calls surcharged", "SMS surcharged"];
 const CLEARED: [&str; 3] = ["data cleared", "calls cleared", "SMS cleared"];
@@ -21,6 +24,7 @@ const WARNED_AGAIN: [&str; 3] = [
     "SMS clear at the 15th change, warned at the next",
 ];
 
+/// service-4, off-1, off-4: the edges of prevalence.
 const EDGES_OF_123: [&str; 4] = [
     "61 zone days of 123, none off",
     "62 zone days of 123, none off",
@@ -34,7 +38,8 @@ const EDGES_OF_15: [&str; 4] = [
     "zone days prevail over 15 with equal units",
 ];
 
-/// A day that ends without a mark, by its place (none, home, zone, elsewhere).
+/// day-2: a day that ends without a mark, by its place (none, home, zone,
+/// elsewhere).
 const OFF_DAYS: [&str; 4] = [
     "off day without a place",
     "off day at home",
@@ -42,7 +47,7 @@ const OFF_DAYS: [&str; 4] = [
     "off day elsewhere",
 ];
 
-/// A day that ends, by its marks from 1 to 7.
+/// day-2: a day that ends, by its marks from 1 to 7.
 const MARKED_DAYS: [&str; 7] = [
     "day marked home",
     "day marked zone",
@@ -100,7 +105,7 @@ enum February {
 }
 
 fn february(day: u64) -> February {
-    // March is the third month of each of the eleven years.
+    // month-2: March is the third month of each of the eleven years.
     let mut years = FIRST_DAYS[2..].iter().step_by(12).zip(2022..);
     let near = |(march, _): &(&u32, u32)| (1..=2).contains(&(u64::from(**march).wrapping_sub(day)));
     match years.find(near) {
@@ -137,7 +142,7 @@ impl TripEvents {
         }
     }
 
-    /// Caps, the month's turn and the end of February.
+    /// caps-2, limit-7, month-3: caps, the month's turn, the end of February.
     fn month(&mut self, before: Seen, now: Seen) {
         let turned = is_first_day(now.day() as u32);
         let bundle = !now.is_prepaid();
@@ -169,6 +174,7 @@ impl TripEvents {
         }
     }
 
+    /// service-7 to service-10: one service at a day change.
     fn stepped(&mut self, seen: &Observed, service: Service) {
         let s = service as usize;
         let (last, next) = (seen.before.state(service), seen.now.state(service));
@@ -201,9 +207,10 @@ impl TripEvents {
     }
 
     /// The edges of a decision. First those in which the units prevail, so that
-    /// the days alone decide: a full window without off days that has one zone
-    /// day too few, one that has just enough, and half of the days that are on;
-    /// then one in which the units alone decide.
+    /// the days alone decide: a full window without off days (off-4) that has
+    /// one zone day too few, one that has just enough, and half of the days
+    /// that are on (off-1); then one in which the units alone decide
+    /// (service-4).
     fn edges(&mut self, sums: &Sums, enough: u64, names: &[&'static str; 4]) {
         let units = sums.units_prevail();
         let full = units && sums.off_days == 0;

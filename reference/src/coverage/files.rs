@@ -1,5 +1,6 @@
 //! Events of files: what reading and finding make of them, the reader of
-//! calls, and runs of a file on an account.
+//! calls, and runs of a file on an account. Rules file-4 to file-9, order-4,
+//! refusal-10 to refusal-15, find-1, reader-1, reader-2, library-9.
 
 use super::causes::{self, Causes, Entry};
 use super::returns::Function;
@@ -7,6 +8,7 @@ use super::TripEvents;
 use crate::sides::{ACCEPTED, BAD_ARGUMENT, END};
 use crate::tripfile::{CALLS_KIND, MAX_FILE, PLAN_KIND};
 
+/// order-4, and what is no fault of a file (file-6, file-9).
 const READ: &[&str] = &[
     "read 12, right if sums wrapped at 32 bits",
     "read 10 before 11",
@@ -209,7 +211,7 @@ impl TripEvents {
         Ok(())
     }
 
-    /// A section that is not there just once.
+    /// refusal-13: a section that is missing or doubled.
     fn not_found(&mut self, bytes: &[u8], kind: u32) {
         let entries = causes::entries(bytes).unwrap_or_default();
         let there = entries.iter().any(|entry| entry.kind == kind);
@@ -224,7 +226,8 @@ impl TripEvents {
         self.hit(event, true);
     }
 
-    /// What the reader of calls returned at a position of a section; likewise.
+    /// reader-1, reader-2: what the reader of calls returned at a position of a
+    /// section; likewise.
     pub fn call_at(&mut self, bytes: usize, position: usize, returned: u64) -> Result<(), String> {
         self.returned(Function::Call, returned)?;
         let left = bytes.checked_sub(position);
@@ -250,8 +253,9 @@ impl TripEvents {
         Ok(())
     }
 
-    /// What a run of a file returned, how many calls it refused, and whether the
-    /// account was one that Open had handed out for the file's plan.
+    /// library-9: what a run of a file returned, how many calls it refused, and
+    /// whether the account was one that Open had handed out for the file's
+    /// plan.
     pub fn run(&mut self, returned: u64, refused: u64, opened: bool) -> Result<(), String> {
         self.returned(Function::Run, returned)?;
         if returned == ACCEPTED {
@@ -263,7 +267,8 @@ impl TripEvents {
         Ok(())
     }
 
-    /// A run on numbers that are no sound account, of a file that is bad.
+    /// library-5: a run on numbers that are no sound account, of a file that is
+    /// bad.
     pub fn run_unsound(&mut self, returned: u64) -> Result<(), String> {
         self.returned(Function::Run, returned)?;
         self.hit("run 0 before the file's number", returned == 0);

@@ -17,7 +17,7 @@ use crate::matching::Stretches;
 use crate::terms::Kind;
 use std::collections::{BTreeMap, BTreeSet};
 
-/// Events of lists and of pairs of lists.
+/// list-1, list-9, half-8: events of lists and of pairs of lists.
 const LISTS: &[&str] = &[
     "empty list",
     "another list with the same stretches",
@@ -137,12 +137,13 @@ impl TripEvents {
         *self = TripEvents::default();
     }
 
-    /// A list without calls.
+    /// list-1: a list without calls.
     pub fn empty_list(&mut self) {
         self.hit("empty list", true);
     }
 
-    /// A pair of lists with the same cuts, and whether the lists are the same.
+    /// list-9, half-8: a pair of lists with the same cuts, and whether the
+    /// lists are the same.
     pub fn pair(&mut self, first: &Stretches, other: &Stretches, lists_agree: bool) {
         let units = first.units == other.units;
         let charged = first.charged == other.charged;

@@ -1,5 +1,6 @@
 //! Events of plans: their faults one by one and two at once, told by Open, by
-//! reading and by writing (02, 4/13), and plans at their limits.
+//! reading and by writing, and plans at their limits. Rules fault-1 to fault-4,
+//! plan-2 to plan-6, refusal-2, library-4.
 
 use super::causes::of_plan;
 use super::returns::Function;
@@ -7,7 +8,7 @@ use super::TripEvents;
 use crate::faults::{faults_of, unused_too_large, Fault, Sort, Words, PAIRS};
 use crate::sides::{ACCEPTED, BAD_ARGUMENT};
 
-/// One fault, by `Fault`.
+/// fault-1 to fault-4: one fault, by `Fault`.
 macro_rules! one_fault {
     ($name:literal) => {
         [
@@ -28,8 +29,8 @@ macro_rules! one_fault {
     };
 }
 
-/// One fault, and that an unused field which is too large as well: fee, V, data
-/// price.
+/// fault-1: one fault, and that an unused field which is too large as well:
+/// fee, V, data price.
 macro_rules! unused_large {
     ($name:literal) => {
         [
@@ -40,7 +41,7 @@ macro_rules! unused_large {
     };
 }
 
-/// Faults of two sorts, by `PAIRS`.
+/// order-1, order-4: faults of two sorts, by `PAIRS`.
 macro_rules! two_faults {
     ($name:literal) => {
         [
@@ -56,7 +57,7 @@ macro_rules! two_faults {
     };
 }
 
-/// Plans at their limits that were accepted.
+/// plan-2 to plan-4, refusal-2: plans at their limits that were accepted.
 macro_rules! limits {
     ($name:literal) => {
         [
@@ -180,7 +181,7 @@ impl TripEvents {
             }
             let wide = words.iter().position(|word| *word > u64::from(u32::MAX));
             if let (Some(beyond), Some(field)) = (beyond, wide) {
-                // An unused field is told as 1 and is no event here.
+                // fault-1: an unused field is told as 1 and is no event here.
                 let used = fault.sort() != Sort::Unused;
                 self.hit(beyond[field], told && used);
             }

@@ -1,4 +1,4 @@
-//! What each function can return, by number.
+//! What each function can return, by number. Rules order-3, order-4, library-3.
 
 use super::TripEvents;
 use crate::sides::{Step, ACCEPTED, BAD_ARGUMENT, END};
@@ -92,7 +92,8 @@ impl Function {
 }
 
 impl TripEvents {
-    /// What a function returned. A number that it never returns is a failure.
+    /// library-3: what a function returned. A number that it never returns is a
+    /// failure.
     pub fn returned(&mut self, function: Function, number: u64) -> Result<(), String> {
         let known = ALL[function as usize].iter();
         match known.clone().find(|(known, _)| *known == number) {

@@ -1,5 +1,6 @@
 //! What the events look at: a call as a side made it, with the numbers of its
-//! account before and after.
+//! account before and after. Rules library-1, library-2; of the log day-2,
+//! service-2 to service-5, off-1.
 
 use crate::numbers::{at, Numbers, ACCOUNT_NUMBERS, DAY_NUMBERS};
 use crate::services::{State, LOG_DAYS};
@@ -45,7 +46,7 @@ impl<'a> Observed<'a> {
     }
 }
 
-/// All of an account but its log. The names are those of the papers.
+/// account-2: all of an account but its log.
 #[derive(Clone, Copy, Debug)]
 pub struct Seen<'a>(pub &'a Rest);
 
@@ -70,7 +71,7 @@ impl Seen<'_> {
         self.get(at::PLAN + 4)
     }
 
-    /// V; none where the plan has no volume.
+    /// plan-1: V; none where the plan has no volume.
     pub fn volume(self) -> Option<u64> {
         (self.form() == 1).then(|| self.get(at::PLAN + 6))
     }
@@ -153,7 +154,7 @@ impl Seen<'_> {
         }
     }
 
-    /// Whether a use of the kind bears the surcharge whatever L is.
+    /// use-8: whether a use of the kind bears the surcharge whatever L is.
     pub fn is_surcharged(self, kind: Kind) -> bool {
         self.in_zone() && self.state(Service::of(kind)) == State::Surcharged
     }
@@ -163,8 +164,8 @@ impl Seen<'_> {
 #[derive(Clone, Copy, Debug)]
 pub struct Log<'a>(pub &'a Numbers);
 
-/// What a window of the log holds: days by what they count as, and units of a
-/// service.
+/// What a window of the log holds: days by what they count as (day-2), and
+/// units of a service (service-2, service-3).
 #[derive(Clone, Copy, Debug, Default)]
 pub struct Sums {
     pub home_days: u64,
@@ -172,7 +173,7 @@ pub struct Sums {
     pub off_days: u64,
     pub zone_units: u64,
     pub other_units: u64,
-    /// Incoming seconds at home, which no service counts.
+    /// service-3: incoming seconds at home, which no service counts.
     pub home_incoming: u64,
 }
 
@@ -212,12 +213,12 @@ impl Log<'_> {
 }
 
 impl Sums {
-    /// Whether the units alone would prevail.
+    /// service-4: whether the units alone would prevail.
     pub fn units_prevail(&self) -> bool {
         self.zone_units > self.other_units
     }
 
-    /// Whether the days alone would: twice the zone days exceed those on.
+    /// off-1: whether the days alone would, with more zone days than home days.
     pub fn days_prevail(&self) -> bool {
         self.zone_days > self.home_days
     }

@@ -1,6 +1,6 @@
 //! The conditions of a sound account, each worked out by itself from the
-//! account's numbers: 01's list with 02, 3/13, and what the header asks of
-//! numbers that stand for an account.
+//! account's numbers: sound-1 to sound-11 with half-6, and what the header asks
+//! of numbers that stand for an account (library-2, library-5).
 
 use super::returns::Function;
 use super::TripEvents;
@@ -124,8 +124,8 @@ pub const WARNED: [Condition; 3] = [
     Condition::WarnedSms,
 ];
 
-/// Another count of numbers than an account has, by function: none, one fewer,
-/// one more.
+/// library-5: another count of numbers than an account has, by function: none,
+/// one fewer, one more.
 macro_rules! counts {
     ($($name:literal),*) => {
         &[$([
@@ -153,7 +153,7 @@ const OTHERS: &[&str] = &[
 
 /// Sums over the days of an account.
 struct Days {
-    /// Units of today and of the logged days, by kind.
+    /// sound-7: units of today and of the logged days, by kind.
     units: [u128; 4],
     /// The largest marks of a logged day.
     marks: u64,
@@ -201,7 +201,7 @@ fn over(value: u128, most: u128) -> i128 {
     }
 }
 
-/// Home charges from the amounts held.
+/// sound-3, use-11: home charges from the amounts held.
 fn home_charges(all: &Numbers) -> u128 {
     let product = |price: usize, kind: usize| {
         u128::from(all[at::PLAN + price]) * u128::from(all[at::PRICED + kind])
@@ -211,7 +211,7 @@ fn home_charges(all: &Numbers) -> u128 {
     product(4, 3).saturating_add(data).saturating_add(calls)
 }
 
-/// Surcharges from the amounts held.
+/// sound-3, use-12: surcharges from the amounts held.
 fn surcharges(all: &Numbers) -> u128 {
     let sum = |kind: usize| u128::from(all[at::CAP_SUMS + kind]);
     sum(0) / u128::from(GB) + sum(1) / 60 + sum(2) / 60 + sum(3)
@@ -230,8 +230,8 @@ fn conditions(all: &Numbers) -> Passed {
     list
 }
 
-/// The ranges of the plan. Of an unknown form it is not known which fields are
-/// used.
+/// sound-1: the ranges of the plan (plan-1 to plan-6). Of an unknown form it is
+/// not known which fields are used.
 fn of_plan(all: &Numbers, list: &mut Passed) {
     let field = |field: usize| u128::from(all[at::PLAN + field]);
     let [data, fee, volume] = [2, 5, 6].map(field);
@@ -262,7 +262,8 @@ fn of_plan(all: &Numbers, list: &mut Passed) {
     }
 }
 
-/// Day, log, place, marks and states.
+/// sound-1, sound-7, sound-10, sound-11: day, log and states; library-5: place
+/// and marks.
 fn of_days(all: &Numbers, list: &mut Passed) {
     let number = |place: usize| u128::from(all[place]);
     let (start, day, logged) = (number(at::PLAN + 1), number(at::DAY), number(at::LOGGED));
@@ -286,8 +287,8 @@ fn of_days(all: &Numbers, list: &mut Passed) {
     }
 }
 
-/// Units and cap sums of each kind, H, R and L. Of outgoing seconds the charged
-/// ones bound the priced and the surcharged ones.
+/// sound-2, sound-5, sound-6, sound-8, sound-9: units and cap sums of each
+/// kind, H, R and L. half-6: what bounds priced and surcharged seconds.
 fn of_units(all: &Numbers, list: &mut Passed) {
     let number = |place: usize| u128::from(all[place]);
     let (charged, limit) = (number(at::CHARGED_SECONDS), 1_000_000_000_000);
@@ -313,6 +314,7 @@ fn of_units(all: &Numbers, list: &mut Passed) {
     ]);
 }
 
+/// sound-2 to sound-4: charges, and what was paid in.
 fn of_money(all: &Numbers, list: &mut Passed) {
     let number = |place: usize| u128::from(all[place]);
     let (home, extra) = (number(at::HOME_CHARGES), number(at::SURCHARGES));
@@ -329,7 +331,7 @@ fn of_money(all: &Numbers, list: &mut Passed) {
     ]);
 }
 
-/// The lesser of 123 and the days since the start.
+/// sound-10: how many days must be logged.
 fn days_to_log(all: &Numbers) -> u128 {
     u128::from(all[at::DAY].saturating_sub(all[at::PLAN + 1]).min(123))
 }
@@ -367,7 +369,7 @@ impl TripEvents {
         Ok(())
     }
 
-    /// What a function returned of another count of numbers.
+    /// library-5: what a function returned of another count of numbers.
     pub fn counted(&mut self, function: Function, count: usize, returned: u64) {
         let functions = [
             Function::Open,

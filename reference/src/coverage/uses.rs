@@ -1,4 +1,5 @@
-//! Events of accepted uses and of Afford.
+//! Events of accepted uses and of Afford. Rules use-1 to use-15, limit-1,
+//! limit-2, half-1 to half-5, rows-2, afford-1.
 
 use super::calls::data_cap;
 use super::seen::{Observed, Seen};
@@ -8,6 +9,7 @@ use crate::meter::{LEAST_CHARGED, MAX_LIFETIME, MAX_UNITS};
 use crate::sides::ACCEPTED;
 use crate::terms::{Kind, Place};
 
+/// rows-2: surcharges by how many rows were read.
 const ROWS_READ: [&str; 6] = [
     "surcharge, 1 row of caps read",
     "surcharge, 2 rows of caps read",
@@ -17,7 +19,7 @@ const ROWS_READ: [&str; 6] = [
     "surcharge, 6 rows of caps read",
 ];
 
-/// Outgoing records of 1, 29, 30 and 31 seconds, by place (02, 3/13).
+/// half-1, half-2: outgoing records of 1, 29, 30 and 31 seconds, by place.
 const RECORDS: [[&str; 4]; 3] = [
     [
         "1 outgoing second at home",
@@ -39,7 +41,7 @@ const RECORDS: [[&str; 4]; 3] = [
     ],
 ];
 
-/// Accepted uses by place and kind.
+/// use-1: accepted uses by place and kind.
 const USES: [[&str; 4]; 3] = [
     [
         "data used at home",
@@ -61,7 +63,7 @@ const USES: [[&str; 4]; 3] = [
     ],
 ];
 
-/// Uses of a service that is Surcharged, by kind.
+/// use-8: zone uses of a service that is Surcharged, by kind.
 const WHILE_SURCHARGED: [&str; 4] = [
     "data used while surcharged",
     "outgoing seconds used while surcharged",
@@ -69,7 +71,7 @@ const WHILE_SURCHARGED: [&str; 4] = [
     "SMS used while surcharged",
 ];
 
-/// Surcharged units after others that were surcharged under another cap.
+/// use-6: surcharged units after others that were surcharged under another cap.
 const TWO_CAPS: [&str; 4] = [
     "data surcharged under two caps",
     "outgoing seconds surcharged under two caps",
@@ -77,7 +79,7 @@ const TWO_CAPS: [&str; 4] = [
     "SMS surcharged under two caps",
 ];
 
-/// What Afford answers while a service is Surcharged, by kind.
+/// afford-1: what Afford answers while a service is Surcharged, by kind.
 const AFFORD_SURCHARGED: [&str; 4] = [
     "afford data while surcharged",
     "afford outgoing seconds while surcharged",
@@ -85,7 +87,7 @@ const AFFORD_SURCHARGED: [&str; 4] = [
     "afford SMS while surcharged",
 ];
 
-/// Lifetime units that come to their limit, by kind.
+/// refusal-5: lifetime units that come to their limit, by kind.
 const AT_LIMIT: [&str; 4] = [
     "lifetime kB at their limit",
     "lifetime outgoing seconds at their limit",
@@ -93,6 +95,7 @@ const AT_LIMIT: [&str; 4] = [
     "lifetime SMS at their limit",
 ];
 
+/// use-4, use-7 to use-9, use-15, limit-1, limit-2: accepted uses.
 const USED: &[&str] = &[
     "use while surcharged",
     "use while surcharged and past L",
@@ -117,6 +120,7 @@ const USED: &[&str] = &[
     "use of the most units",
 ];
 
+/// half-1, half-3, half-5: short zone records, and charged seconds.
 const CALLED: &[&str] = &[
     "outgoing zone record of under 30 seconds",
     "zone record of under 30 seconds with a surcharge",
@@ -126,6 +130,7 @@ const CALLED: &[&str] = &[
     "use 6 of a zone record affordable as spoken",
 ];
 
+/// afford-1: what Afford answers, and why no more.
 const AFFORDED: &[&str] = &[
     "afford nothing",
     "afford the most",
@@ -170,7 +175,7 @@ impl TripEvents {
             return;
         };
         self.hit(USES[place as usize][k], true);
-        let surcharged = old.is_surcharged(kind);
+        let surcharged = old.in_zone() && old.is_surcharged(kind);
         self.hit("use while surcharged", surcharged);
         self.hit(WHILE_SURCHARGED[k], surcharged);
         let cap = caps_on(old.day() as u32)[k];
@@ -199,7 +204,7 @@ impl TripEvents {
         }
     }
 
-    /// An accepted outgoing record.
+    /// half-1 to half-3: an accepted outgoing record.
     fn called(&mut self, old: Seen, n: u64, now: Seen) {
         if let Some(place) = old.place() {
             let length = [1, 29, 30, 31].iter().position(|length| *length == n);
@@ -225,11 +230,11 @@ impl TripEvents {
         );
     }
 
-    /// An accepted use of data.
+    /// use-4, use-7, use-15, limit-1, limit-2: an accepted use of data.
     fn used_data(&mut self, seen: &Observed, n: u64) {
         let (old, now) = (seen.before, seen.now);
         let zone = old.in_zone();
-        let surcharged = old.is_surcharged(Kind::Data);
+        let surcharged = zone && old.is_surcharged(Kind::Data);
         let notice = seen.answer[4] == 1;
         self.hit("notice", notice);
         self.hit("notice while surcharged", notice && surcharged);
@@ -309,7 +314,7 @@ impl TripEvents {
         self.hit("afford limited by charged seconds alone", by_charged);
     }
 
-    /// A use of so many units on an account of which Afford answered.
+    /// afford-1: a use of so many units on an account of which Afford answered.
     pub fn use_after_afford(&mut self, most: u64, n: u64, returned: u64) {
         let accepted = returned == ACCEPTED;
         self.hit(
@@ -324,8 +329,8 @@ impl TripEvents {
     }
 }
 
-/// Whether the credit pays for so many more outgoing seconds, charged as they
-/// are.
+/// use-11 to use-13: whether the credit pays for so many more outgoing seconds,
+/// charged as they are.
 pub(super) fn can_pay(account: Seen, seconds: u64) -> bool {
     let place = account.place().unwrap_or(Place::Elsewhere);
     let surcharged = account.is_surcharged(Kind::Outgoing);

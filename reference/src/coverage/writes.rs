@@ -1,4 +1,5 @@
-//! Events of writing a trip file.
+//! Events of writing a trip file. Rules order-4, refusal-14 to refusal-16,
+//! library-4.
 
 use super::returns::Function;
 use super::TripEvents;
@@ -6,7 +7,7 @@ use crate::sides::{ACCEPTED, BAD_ARGUMENT};
 use crate::tripfile::{BEFORE_CALLS, MAX_CALLS};
 use crate::writes::WriteCase;
 
-/// The plan's number told though 14 would hold, or 15, or 16.
+/// order-4: the plan's number told though 14 would hold, or 15, or 16.
 const PLAN_FIRST: [[&str; 4]; 3] = [
     [
         "write 1 before 14",

@@ -143,7 +143,7 @@ impl Differ {
         Ok((given[0].returned, given[0].answer[0]))
     }
 
-    /// Afford of a kind, then a use of as many units, or of one more.
+    /// afford-1: Afford of a kind, then a use of as many units, or of one more.
     fn afforded(
         &mut self,
         account: &Numbers,
@@ -164,7 +164,8 @@ impl Differ {
         Ok(())
     }
 
-    /// Arguments of no call, a short answer, or another count of numbers.
+    /// library-4, library-5: arguments of no call, a short answer, or another
+    /// count of numbers.
     fn odd(
         &mut self,
         account: &Numbers,

@@ -44,8 +44,8 @@ impl Given {
         }
     }
 
-    /// Whether all but the answer's numbers stayed, or all of them where the
-    /// call was not accepted.
+    /// library-5: whether all but the answer's numbers stayed, or all of them
+    /// where the call was not accepted.
     fn keeps_the_rest(&self, numbers: usize) -> bool {
         let written = if self.returned == ACCEPTED {
             numbers

@@ -72,8 +72,8 @@ impl Run {
 /// Numbers that are no place or kind.
 const UNKNOWN: [u64; 6] = [3, 4, 5, 1 << 32, (1 << 32) + 1, u64::MAX];
 
-/// A call with an argument that is none, or with units or points that no trip
-/// file can hold.
+/// library-4: a call with an argument that is none, or with units or points
+/// that no trip file can hold.
 pub fn odd_step(rng: &mut Rng) -> Step {
     let kind = rng.pick(&UNKNOWN).max(4);
     let wide = rng.pick(&[1 << 32, (1 << 32) + 1, 1 << 63, u64::MAX]);
@@ -167,7 +167,7 @@ impl Differ {
         Ok(())
     }
 
-    /// A call on an account with another count of numbers.
+    /// library-5: a call on an account with another count of numbers.
     pub(super) fn counted(
         &mut self,
         numbers: &Numbers,

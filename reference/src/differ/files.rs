@@ -26,8 +26,8 @@ const SMALL: usize = 2048;
 /// So many files in a row are run on the same account.
 const FILES_ON_AN_ACCOUNT: u64 = 64;
 
-/// The statement of a trip's file and its run on a newly opened account come to
-/// what the single calls came to.
+/// library-8, library-9: the statement of a trip's file and its run on a newly
+/// opened account come to what the single calls came to.
 fn file_as_run(
     side: &Side,
     file: &[u8],
@@ -179,7 +179,8 @@ impl Differ {
         Ok(())
     }
 
-    /// A run on an account that is not of the file's plan, or not newly opened.
+    /// library-9: a run on an account that is not of the file's plan, or not
+    /// newly opened.
     fn run_on(
         &mut self,
         account: &Numbers,
@@ -207,8 +208,8 @@ impl Differ {
         Ok(())
     }
 
-    /// A run of a bad file on numbers that are no sound account, at times with
-    /// no room for the answer.
+    /// library-4, library-5: a run of a bad file on numbers that are no sound
+    /// account, at times with no room for the answer.
     fn run_unsound(
         &mut self,
         account: &Numbers,
@@ -229,7 +230,8 @@ impl Differ {
         Ok(())
     }
 
-    /// The reader at some positions of some bytes, and within a part of them.
+    /// reader-1, reader-2: the reader at some positions of some bytes, and
+    /// within a part of them.
     fn reader(&mut self, bytes: &[u8], rng: &mut Rng, events: &mut Both) -> Result<(), Failure> {
         let section = &bytes[..rng.below(bytes.len() as u64 + 1) as usize];
         let end = section.len();
@@ -255,7 +257,7 @@ impl Differ {
         Ok(())
     }
 
-    /// One of the functions with an answer that has too few numbers.
+    /// library-4: one of the functions with an answer that has too few numbers.
     fn short_answers(
         &mut self,
         file: &[u8],
@@ -293,8 +295,8 @@ impl Differ {
         Ok(())
     }
 
-    /// Writing again what a file was read as. A file of just plan and calls
-    /// comes out as it is, any other one as a file that reads alike.
+    /// trip-2: writing again what a file was read as. A file of just plan and
+    /// calls comes out as it is, any other one as a file that reads alike.
     fn write_again(
         &mut self,
         file: &[u8],

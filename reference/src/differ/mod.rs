@@ -26,7 +26,7 @@ const PAIRS_EVERY: u64 = 20;
 /// So many accounts come from one seed.
 pub const ACCOUNTS_OF_A_SEED: u64 = 10;
 
-/// Where the meters disagree, or where demand 3 fails.
+/// Where the meters disagree, or where demand 3 fails (list-9).
 #[derive(Clone, Debug, Default)]
 pub struct Mismatch {
     pub what: String,
@@ -211,9 +211,9 @@ impl Differ {
         Ok(run)
     }
 
-    /// Demand 3 for a list, one with the same stretches, one with a use altered
-    /// and one with an outgoing zone record divided; the others go through the
-    /// comparison as well.
+    /// list-9, half-8: demand 3 for a list, one with the same stretches, one
+    /// with a use altered and one with an outgoing zone record divided; the
+    /// others go through the comparison as well.
     fn pairs(
         &mut self,
         case: &Case,

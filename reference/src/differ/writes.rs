@@ -35,8 +35,8 @@ impl Differ {
     }
 
     /// Both writers, each on a copy of the buffer: the same return and answer,
-    /// and the same bytes in all of the buffer. Answers what was returned, and
-    /// the buffer.
+    /// and the same bytes in all of the buffer (write-2, library-5). Answers
+    /// what was returned, and the buffer.
     pub(super) fn both_write(
         &mut self,
         case: &WriteCase,
@@ -83,10 +83,10 @@ impl Differ {
         Ok(())
     }
 
-    /// The caps of every day from 0 on, and how many rows were read for them;
-    /// then those of numbers that are no account's day: the same days with a
-    /// bit more above the lowest 32, the powers of 2 with their neighbours,
-    /// and random ones. At times the answer is too short.
+    /// library-10: the caps of every day from 0 on, and how many rows were read
+    /// for them (rows-2); then those of numbers that are no account's day: the
+    /// same days with a bit more above the lowest 32, the powers of 2 with
+    /// their neighbours, and random ones. At times the answer is too short.
     pub fn days(&mut self, seed: u64) -> Result<(), Box<Mismatch>> {
         let mut rng = Rng::new(seed ^ 0xDA75_0000);
         let mut rooms = Rng::new(seed ^ 0xDA75_0001);

@@ -9,6 +9,7 @@ use reference::sides::{Kept, Step};
 use reference::terms::{Call, Kind, Place};
 use reference::tripfile;
 
+/// unit-1: the kB of a GB.
 pub const GB: u64 = 1_048_576;
 
 pub fn prepaid(start: u32, data: u32, minute: u32, sms: u32) -> Plan {
@@ -68,8 +69,8 @@ pub fn outgoing(n: u64) -> Call {
     Call::Use(Kind::Outgoing, n)
 }
 
-/// The answer of a use: home and surcharge points, surcharged units, units
-/// charged, notice.
+/// The answer of a use: points and surcharged units (use-14), units charged
+/// (half-7), notice (use-15).
 pub fn used(
     home: u64,
     extra: u64,
@@ -94,7 +95,8 @@ pub fn file(plan: &Plan, calls: &[(u32, u32)]) -> Vec<u8> {
     buffer
 }
 
-/// Plans that keep every range, and the least and largest of each field.
+/// plan-1 to plan-6: plans that keep every range, and the least and largest of
+/// each field.
 pub const GOOD_PLANS: [[u32; 7]; 5] = [
     [0, 181, 1_000_000, 1_000_000, 1_000_000, 0, 0],
     [
@@ -111,7 +113,7 @@ pub const GOOD_PLANS: [[u32; 7]; 5] = [
     [2, 181, 0, 0, 0, 0, 0],
 ];
 
-/// Plans with one fault, by 02, 4/13.
+/// fault-1 to fault-4: plans with one fault.
 pub const ONE_FAULT: [(u32, [u32; 7]); 30] = [
     (1, [3, 1461, 5, 5, 5, 0, 0]),
     (1, [3, 1461, 5, 5, 5, 5, 5]),
@@ -120,7 +122,7 @@ pub const ONE_FAULT: [(u32, [u32; 7]); 30] = [
     (1, [0, 1461, 5, 5, 5, 0, 1]),
     (1, [2, 1461, 1, 5, 5, 5, 0]),
     (1, [2, 1461, 0, 5, 5, 5, 1]),
-    // Not used, and too large for any form.
+    // fault-1: not used, and too large for any form.
     (1, [0, 1461, 5, 5, 5, 10_000_001, 0]),
     (1, [0, 1461, 5, 5, 5, 0, 1_073_741_825]),
     (1, [2, 1461, 1_000_001, 5, 5, 5, 0]),
@@ -146,7 +148,7 @@ pub const ONE_FAULT: [(u32, [u32; 7]); 30] = [
     (2, [0, u32::MAX, 5, 5, 5, 0, 0]),
 ];
 
-/// Plans with two faults or more: the number that comes first in 1, 17, 18, 2.
+/// order-4: plans with two faults or more, the first number of 1, 17, 18, 2.
 pub const MORE_FAULTS: [(u32, [u32; 7]); 20] = [
     (1, [3, 1461, 1_000_001, 5, 5, 0, 0]),
     (1, [3, 1461, 5, 5, 5, 10_000_001, 5]),

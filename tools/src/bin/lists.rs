@@ -1,14 +1,15 @@
-//! Holds docs/CLAIMS.md, docs/EDITS.md and README.md's refusal numbers to the tree, from the top of the repository. If all
-//! is well it ends with 0, and its last lines are `claims: N listed, 0 wrong` and the same of `wrong programs` and `refusal
-//! numbers`.
+//! Holds docs/RULES.md, docs/CLAIMS.md, docs/EDITS.md and README.md's refusal numbers to the tree, from the top of the
+//! repository. If all is well it ends with 0, and its last lines are `rules: N listed, 0 wrong` and the same of `claims`,
+//! `wrong programs` and `refusal numbers`.
 use std::path::Path;
 use std::process::ExitCode;
 use tools::claims::{self, Outcome};
-use tools::{refusals, wrong_programs};
+use tools::{refusals, rules, wrong_programs};
 
 fn main() -> ExitCode {
     let root = Path::new(".");
     let right = [
+        told("rules", rules::check(root)),
         told("claims", claims::check(root)),
         told("wrong programs", wrong_programs::check(root)),
         told("refusal numbers", refusals::check(root)),

@@ -15,7 +15,7 @@ pub const SPAN: Duration = Duration::from_secs(15);
 const ROUNDS: usize = 80;
 const PROGRESS: Duration = Duration::from_secs(3);
 
-/// The first day of a plan, with thousands of days after it.
+/// refusal-2: the first day of a plan, with thousands of days after it.
 pub const EARLY: u32 = 181;
 
 /// A line of a table: its name, what is timed, and the number that the time is

@@ -140,7 +140,8 @@ fn checked(side: Side, row: &Row, name: &str, days: usize) -> Line {
 }
 
 /// Whole files, the calls of the largest on an account, and the same one by
-/// one: neither a file's statement nor its run looks at soundness at each call.
+/// one: in a file's statement, and in its run, the proved meter looks at
+/// soundness once and not at each call.
 fn statements(side: Side) -> Part {
     let calls = most_calls();
     let most = calls.len();

@@ -18,13 +18,13 @@ pub struct Row {
     done: Done,
 }
 
-/// The days before the calls, of which the last 123 are logged.
+/// The days before the calls, of which the last 123 are logged (day-1).
 #[derive(Clone, Copy)]
 enum Days {
     /// At home and in the zone in turn. At home there is more use, so that
-    /// every service stays Clear.
+    /// every service stays Clear (service-4).
     InTurn,
-    /// All in the zone: after them every service is Surcharged.
+    /// All in the zone: after them every service is Surcharged (service-8).
     Zone,
 }
 
@@ -148,8 +148,8 @@ impl Row {
         Task::new(side, start, &before, Work::Acts(acts))
     }
 
-    /// Day changes that fill the log; in the zone some more, until each service
-    /// was warned and then Surcharged.
+    /// day-1: day changes that fill the log; service-7, service-8: in the zone
+    /// some more, until each service was warned and then Surcharged.
     pub fn full_days(&self) -> usize {
         match self.days {
             Days::InTurn => 130,
