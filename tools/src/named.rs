@@ -1,6 +1,7 @@
 //! What a rule can name beside definitions: public functions, wrong programs, and what runs it.
 use crate::claims::module;
 use crate::folder;
+use crate::wrong_programs::names_in;
 use std::collections::BTreeSet;
 use std::fs;
 use std::path::Path;
@@ -51,9 +52,7 @@ pub fn names(root: &Path) -> Result<Names, String> {
             found.functions.extend(functions(&krate, &file, &text));
         }
         for part in ["edits", "must-fail"] {
-            let files = folder::entries(&dir.join(part)).unwrap_or_default();
-            let names = files.iter().map(|path| folder::name_of(path));
-            let names = names.filter_map(|n| n.strip_suffix(".edit").map(str::to_string));
+            let names = names_in(&dir.join(part)).into_iter();
             found.edits.extend(names.map(|n| format!("{krate}/{n}")));
         }
     }

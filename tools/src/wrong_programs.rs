@@ -32,7 +32,8 @@ fn tree(root: &Path) -> Result<Tree, String> {
     Ok(found)
 }
 
-fn names_in(dir: &Path) -> Vec<String> {
+/// The names of the edits in a folder; none where there is no such folder.
+pub fn names_in(dir: &Path) -> Vec<String> {
     let files = folder::entries(dir).unwrap_or_default();
     let names = files.iter().map(|path| folder::name_of(path));
     names
