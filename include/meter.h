@@ -11,13 +11,13 @@
  * Every function returns a number:
  *   METER_ACCEPTED       the call was accepted; its answer stands in the first numbers of `answer`, and those after
  *                        them stay;
- *   METER_BAD_ARGUMENT   the arguments are of no call: an unknown place or kind, a plan that is not seven numbers, or
- *                        an `answer` with fewer numbers than the call gives; it comes before any refusal;
+ *   METER_BAD_ARGUMENT   the arguments are of no call: an unknown call, place or kind, a plan that is not seven
+ *                        numbers, or an `answer` with fewer numbers than the call gives; it comes before any refusal;
  *   METER_END            meter_call alone: no further call;
  *   any other number     the call was refused: the number in the README's list, 0 among them. It is the first that
  *                        holds, in the order that the function's comment gives.
- * Unless it returns METER_ACCEPTED a function changes nothing: every number of the account, every number of `answer`
- * and every byte of a buffer stays.
+ * Unless it returns METER_ACCEPTED a function changes nothing: every number of the account, every card, every number of
+ * `answer` and every byte of a buffer stays.
  *
  * Refusal 0, of every function with an account, is for numbers that are no sound account: a count other than
  * METER_ACCOUNT_NUMBERS, a number that stands for no form, place or mark, or figures that contradict each other.
@@ -108,6 +108,74 @@ uint64_t meter_afford(const uint64_t *account, size_t account_numbers, uint64_t 
 
 /* METER_ACCEPTED for the numbers of a sound account, else 0. */
 uint64_t meter_is_sound(const uint64_t *account, size_t account_numbers);
+
+/* A family box: one account, which all cards share, and a list of 1 to METER_BOX_CARDS cards beside it in the caller's
+ * memory. A card is named by its place in the list, from 0. Every call gets the whole list, and the same list with the
+ * same account each time: a use changes the card that it names, the first day of a month clears the kB of the month of
+ * every card, and no call changes anything else of the cards. Refusal 0 is also for cards whose lifetime units do not
+ * add up to the account's in each kind, or of which one has more kB in the month than in its life or in its allowance,
+ * or an allowance of over 1,000,000,000,000. A list of any length and any numbers is answered. */
+#define METER_BOX_CARDS 16u
+
+typedef struct meter_card {
+    uint64_t kb, outgoing, incoming, sms; /* lifetime units, seconds as spoken */
+    uint64_t monthly;                     /* kB of the month, at every place */
+    uint64_t allowance;                   /* kB that it may use in a month, at most 1,000,000,000,000 */
+} meter_card;
+
+/* What meter_box_call is asked for. */
+enum meter_box_action {
+    METER_BOX_REGISTER, /* which: the place */
+    METER_BOX_USE,      /* card, which: the kind, n: the units */
+    METER_BOX_TOP_UP,   /* n: the points */
+    METER_BOX_NEXT_DAY,
+    METER_BOX_AFFORD    /* card, which: the kind */
+};
+
+/* Opens a box under a plan, as meter_open does, for cards with the allowances that stand in the list; their other
+ * numbers become 0. Refusals: 0 (the count of the account's numbers alone), 1, 17, 18, 2, 19 (no card, or over
+ * METER_BOX_CARDS), 20 (an allowance of over 1,000,000,000,000). */
+uint64_t meter_box_open(uint64_t *account, size_t account_numbers, meter_card *cards, size_t card_count,
+                        const uint64_t *plan, size_t plan_numbers);
+
+/* A call on a box, by its number in enum meter_box_action; what a call has no use for is not looked at. Answers are
+ * those of meter_use and meter_afford. Refusals: 0, then 19 (no such card in a use or Afford, or over METER_BOX_CARDS
+ * cards in any call), then those of the account's call, and in a use, after 5 and before 6, 20 (data beyond the card's
+ * monthly allowance). */
+uint64_t meter_box_call(uint64_t *account, size_t account_numbers, meter_card *cards, size_t card_count, uint64_t call,
+                        size_t card, uint64_t which, uint64_t n, uint64_t *answer, size_t answer_numbers);
+
+/* The calls by their names. */
+static inline uint64_t meter_box_register(uint64_t *account, size_t account_numbers, meter_card *cards,
+                                          size_t card_count, uint64_t place) {
+    uint64_t none = 0;
+    return meter_box_call(account, account_numbers, cards, card_count, METER_BOX_REGISTER, 0, place, 0, &none, 0);
+}
+
+static inline uint64_t meter_box_use(uint64_t *account, size_t account_numbers, meter_card *cards, size_t card_count,
+                                     size_t card, uint64_t kind, uint64_t n, uint64_t *answer, size_t answer_numbers) {
+    return meter_box_call(account, account_numbers, cards, card_count, METER_BOX_USE, card, kind, n, answer,
+                          answer_numbers);
+}
+
+static inline uint64_t meter_box_top_up(uint64_t *account, size_t account_numbers, meter_card *cards,
+                                        size_t card_count, uint64_t points) {
+    uint64_t none = 0;
+    return meter_box_call(account, account_numbers, cards, card_count, METER_BOX_TOP_UP, 0, 0, points, &none, 0);
+}
+
+static inline uint64_t meter_box_next_day(uint64_t *account, size_t account_numbers, meter_card *cards,
+                                          size_t card_count) {
+    uint64_t none = 0;
+    return meter_box_call(account, account_numbers, cards, card_count, METER_BOX_NEXT_DAY, 0, 0, 0, &none, 0);
+}
+
+static inline uint64_t meter_box_afford(uint64_t *account, size_t account_numbers, meter_card *cards,
+                                        size_t card_count, size_t card, uint64_t kind, uint64_t *answer,
+                                        size_t answer_numbers) {
+    return meter_box_call(account, account_numbers, cards, card_count, METER_BOX_AFFORD, card, kind, 0, answer,
+                          answer_numbers);
+}
 
 /* Makes the calls of a trip file on an account, one after the other, as the functions above do; a call that is refused
  * changes nothing, and the next one follows. The account keeps its own plan; that of the file is only read. Answer: how

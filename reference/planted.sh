@@ -1,7 +1,7 @@
 #!/bin/sh
 # Plants each wrong rule of src/planted.rs in this crate's meter and checks
 # that the comparison with the proved meter finds it within 1,000 trips, as many
-# files and 10,000 accounts.
+# files and lists on boxes, and 10,000 accounts.
 # planted.sh [SEED]
 set -eu
 CDPATH= cd -- "$(dirname -- "$0")"
@@ -15,7 +15,7 @@ cd "$scratch"
 
 # run RULE
 run() {
-    METER_WRONG=$1 "$differ" --seed "$seed" --trips 1000 --damaged 1000 --accounts 10000 >out 2>err
+    METER_WRONG=$1 "$differ" --seed "$seed" --trips 1000 --damaged 1000 --accounts 10000 --boxes 1000 >out 2>err
 }
 
 # Without a wrong rule nothing may differ. So short a run may miss events (3).

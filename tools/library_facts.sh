@@ -3,7 +3,7 @@
 # and of each function the stack and the instructions.
 # library_facts.sh: as the tables of docs/LIBRARY.md.
 # library_facts.sh --check FILE: held against these tables, after the header was held to the sources and to the library,
-# and the example box to its text. Code, constants or instructions that are over 5 % more than the file says, more
+# and the example boxes to their text. Code, constants or instructions that are over 5 % more than the file says, more
 # stack, another outside symbol, or a table that cannot be read is a failure.
 # The library is built here by ./library. Needed: a C compiler, binutils and valgrind.
 set -eu
@@ -75,6 +75,7 @@ exported() {
             c["&[u64]"] = "const uint64_t *,size_t"; c["&mut [u64]"] = "uint64_t *,size_t"
             c["&[u8]"] = "const uint8_t *,size_t"; c["&mut [u8]"] = "uint8_t *,size_t"
             c["&[u32]"] = "const uint32_t *,size_t"
+            c["&mut [Card]"] = "meter_card *,size_t"
         }
         /^pub extern "C" fn / { text = ""; within = 1 }
         within { text = text " " $0 }
@@ -116,23 +117,23 @@ compile() { # NAME SOURCE
     }
 }
 
-check_box() {
-    compile box examples/box.c
+check_example() { # NAME
+    compile "$1" "examples/$1.c"
     status=0
-    "$scratch/box" >"$scratch/text" || status=$?
-    [ "$status" -eq 0 ] || wrong "the box of examples/box.c ended with $status"
-    if ! diff examples/box.txt "$scratch/text" >"$scratch/differences"; then
-        wrong "the box of examples/box.c printed something else (>) than examples/box.txt (<)"
+    "$scratch/$1" >"$scratch/text" || status=$?
+    [ "$status" -eq 0 ] || wrong "the box of examples/$1.c ended with $status"
+    if ! diff "examples/$1.txt" "$scratch/text" >"$scratch/differences"; then
+        wrong "the box of examples/$1.c printed something else (>) than examples/$1.txt (<)"
         cat "$scratch/differences" >&2
         return
     fi
-    say "the box printed the $(grep -c '' examples/box.txt) lines of examples/box.txt"
+    say "the box of examples/$1.c printed the $(grep -c '' "examples/$1.txt") lines of examples/$1.txt"
 }
 
-check_names() {
-    compile header tools/c/header.c
-    "$scratch/header" >"$scratch/text" || wrong "the library is not as the header says"
-    tail -n 20 "$scratch/text" | while IFS= read -r line; do say "${line#header: }"; done
+check_names() { # NAME
+    compile "$1" "tools/c/$1.c"
+    "$scratch/$1" >"$scratch/text" || wrong "the library is not as the header says"
+    tail -n 20 "$scratch/text" | while IFS= read -r line; do say "${line#"$1": }"; done
 }
 
 # ---- symbols and sizes
@@ -244,8 +245,10 @@ fi
 ./library >/dev/null
 if [ -n "$document" ]; then
     check_header
-    check_box
-    check_names
+    check_example box
+    check_example family
+    check_names header
+    check_names cards
 fi
 take_apart
 facts >"$scratch/facts"

@@ -5,6 +5,7 @@ use crate::book::{Book, Stage};
 use crate::coverage::seen::{rest, Observed};
 use crate::coverage::{Coverage, TripEvents};
 use crate::damage;
+use crate::family::check::check_box;
 use crate::generate::{self, Case};
 use crate::matching;
 use crate::meter::{Account, Answer};
@@ -19,7 +20,7 @@ use crate::writes::WriteCase;
 /// What a check that failed says.
 pub type Failure = String;
 
-fn demand(holds: bool, what: impl FnOnce() -> String) -> Result<(), Failure> {
+pub(crate) fn demand(holds: bool, what: impl FnOnce() -> String) -> Result<(), Failure> {
     if holds {
         Ok(())
     } else {
@@ -27,7 +28,8 @@ fn demand(holds: bool, what: impl FnOnce() -> String) -> Result<(), Failure> {
     }
 }
 
-/// All checks of one seed; answers how many calls the list had.
+/// All checks of one seed, a list on an account and one on a box; answers how
+/// many calls both had.
 pub fn check_seed(seed: u64, coverage: &mut Coverage) -> Result<usize, Failure> {
     let mut rng = Rng::new(seed ^ 0xC0FF_EE00);
     let mut events = TripEvents::default();
@@ -40,7 +42,10 @@ pub fn check_seed(seed: u64, coverage: &mut Coverage) -> Result<usize, Failure> 
         check_write(&mut rng, &mut events)?;
     }
     coverage.add(&events);
-    Ok(case.calls.len())
+    let mut events = TripEvents::default();
+    let box_calls = check_box(seed, &mut events)?;
+    coverage.add(&events);
+    Ok(case.calls.len() + box_calls)
 }
 
 /// book-12: the account against the book after every call.
@@ -137,7 +142,7 @@ fn check_answer(
 }
 
 /// Soundness, the balance (sound-4), and the fields that the book knows too.
-fn compare(account: &Account, book: &Book) -> Result<(), Failure> {
+pub(crate) fn compare(account: &Account, book: &Book) -> Result<(), Failure> {
     demand(account.sound(), || "not sound".to_string())?;
     let balance = account.credit + account.home + account.extra;
     demand(account.paid_in == balance, || "no balance".to_string())?;

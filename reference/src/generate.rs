@@ -11,7 +11,7 @@ use crate::terms::{Call, Kind, Place, Service, GB};
 use crate::tripfile::{write, BEFORE_CALLS, MAX_CALLS};
 
 /// half-1: outgoing records about the half minute.
-const RECORDS: [u64; 4] = [1, LEAST_CHARGED - 1, LEAST_CHARGED, LEAST_CHARGED + 1];
+pub const RECORDS: [u64; 4] = [1, LEAST_CHARGED - 1, LEAST_CHARGED, LEAST_CHARGED + 1];
 
 /// A plan that Open accepts and a list of calls.
 #[derive(Clone, PartialEq, Eq, Debug)]
@@ -173,7 +173,7 @@ fn start_day(rng: &mut Rng) -> u32 {
     }
 }
 
-fn starting(plan: Plan, start: u64) -> Plan {
+pub fn starting(plan: Plan, start: u64) -> Plan {
     Plan {
         start: start as u32,
         ..plan

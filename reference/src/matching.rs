@@ -161,7 +161,7 @@ pub fn rearranged(rng: &mut Rng, trace: &Trace) -> Vec<Call> {
 }
 
 /// Parts of a total, each of them a number that Use takes.
-fn split(rng: &mut Rng, total: u64) -> Vec<u64> {
+pub(crate) fn split(rng: &mut Rng, total: u64) -> Vec<u64> {
     let (mut parts, mut left) = (Vec::new(), total);
     while left > 0 {
         let most = left.min(MAX_UNITS);
@@ -177,7 +177,7 @@ fn split(rng: &mut Rng, total: u64) -> Vec<u64> {
 /// seconds. Some of a minute or more become two that last half a minute at
 /// least, and of two that last half a minute at most one gives seconds to the
 /// other.
-fn other_records(rng: &mut Rng, records: &[u64]) -> Vec<u64> {
+pub(crate) fn other_records(rng: &mut Rng, records: &[u64]) -> Vec<u64> {
     let mut parts = Vec::new();
     for n in records.iter().copied() {
         if n >= 60 && rng.chance(50) {
@@ -222,9 +222,9 @@ pub fn divided(rng: &mut Rng, calls: &[Call]) -> Option<Vec<Call>> {
     Some(calls)
 }
 
-fn shuffle(rng: &mut Rng, calls: &mut [Call]) {
-    for last in (1..calls.len()).rev() {
-        calls.swap(last, rng.below(last as u64 + 1) as usize);
+pub(crate) fn shuffle<T>(rng: &mut Rng, list: &mut [T]) {
+    for last in (1..list.len()).rev() {
+        list.swap(last, rng.below(last as u64 + 1) as usize);
     }
 }
 

@@ -79,6 +79,15 @@ struct Charge {
     extra: u64,
 }
 
+/// A use that 3, 4 and 5 let pass, and what it would be charged.
+pub(crate) struct Weighed {
+    place: Place,
+    kind: Kind,
+    n: u64,
+    cap: u64,
+    charge: Charge,
+}
+
 impl Account {
     /// Open: 1, 17, 18, 2 (order-4), all of them about the plan.
     pub fn open(plan: Plan) -> Result<Account, u32> {
@@ -185,6 +194,15 @@ impl Account {
             && u128::from(self.paid_in) == held
     }
 
+    /// refusal-0: the first thing that every call looks at.
+    fn look(&self) -> Result<(), u32> {
+        if self.sound() {
+            Ok(())
+        } else {
+            Err(0)
+        }
+    }
+
     /// register-1: place and mark. register-2: coming into the zone renews a
     /// prepaid L.
     pub fn register(&mut self, place: Place) -> Result<Answer, u32> {
@@ -193,9 +211,12 @@ impl Account {
 
     /// Register with the caps as an argument.
     pub fn register_at(&mut self, place: Place, caps: &Caps) -> Result<Answer, u32> {
-        if !self.sound() {
-            return Err(0);
-        }
+        self.look()?;
+        Ok(self.enter(place, caps))
+    }
+
+    /// Register on an account that is known to be sound.
+    pub(crate) fn enter(&mut self, place: Place, caps: &Caps) -> Answer {
         let outside = self.place != Some(Place::Zone) || planted(Wrong::NewLimitOnRegisteringAgain);
         let entering = place == Place::Zone && outside;
         self.place = Some(place);
@@ -203,7 +224,7 @@ impl Account {
         if entering {
             self.renew_prepaid_limit(self.credit, caps);
         }
-        Ok(Answer::Done)
+        Answer::Done
     }
 
     /// Top-up: 7, 8 (order-3). topup-1: credit and paid in grow. topup-2: a
@@ -214,9 +235,12 @@ impl Account {
 
     /// Top-up with the caps as an argument.
     pub fn top_up_at(&mut self, amount: u64, caps: &Caps) -> Result<Answer, u32> {
-        if !self.sound() {
-            return Err(0);
-        }
+        self.look()?;
+        self.pay_in(amount, caps)
+    }
+
+    /// Top-up on an account that is known to be sound.
+    pub(crate) fn pay_in(&mut self, amount: u64, caps: &Caps) -> Result<Answer, u32> {
         if !(1..=MAX_TOP_UP).contains(&amount) {
             return Err(7);
         }
@@ -254,17 +278,22 @@ impl Account {
 
     /// Use with the caps as an argument.
     pub fn use_units_at(&mut self, kind: Kind, n: u64, caps: &Caps) -> Result<Answer, u32> {
-        if !self.sound() {
-            return Err(0);
+        self.look()?;
+        if let (true, Some(place)) = (planted(Wrong::RefusedUseMarks), self.place) {
+            self.today.mark(place);
         }
+        let weighed = self.weigh(kind, n, caps)?;
+        self.pays(&weighed)?;
+        Ok(self.take(weighed))
+    }
+
+    /// 3, 4 and 5 of a use on an account that is known to be sound.
+    pub(crate) fn weigh(&self, kind: Kind, n: u64, caps: &Caps) -> Result<Weighed, u32> {
         let in_range = (1..=MAX_UNITS).contains(&n);
         if planted(Wrong::UnitsBeforePlace) && !in_range {
             return Err(4);
         }
         let place = self.place.ok_or(3u32)?;
-        if planted(Wrong::RefusedUseMarks) {
-            self.today.mark(place);
-        }
         if !in_range {
             return Err(if planted(Wrong::UnitsToldAsCredit) {
                 6
@@ -275,14 +304,27 @@ impl Account {
         if self.lifetime[kind as usize] + n > MAX_LIFETIME {
             return Err(5);
         }
-        let charge = self.charge(place, kind, n, caps[kind as usize]);
+        let cap = caps[kind as usize];
+        let charge = self.charge(place, kind, n, cap);
         if !self.has_room_for(kind, &charge) {
             return Err(5);
         }
+        Ok(Weighed {
+            place,
+            kind,
+            n,
+            cap,
+            charge,
+        })
+    }
+
+    /// 6: whether the credit pays for the use.
+    pub(crate) fn pays(&self, weighed: &Weighed) -> Result<(), u32> {
+        let charge = &weighed.charge;
         if charge.home + charge.extra > self.home + self.extra + self.credit {
             return Err(6);
         }
-        Ok(self.take(place, kind, n, caps[kind as usize], charge))
+        Ok(())
     }
 
     /// What n units would bear, and use-11, use-12: the charges of a life with
@@ -354,7 +396,14 @@ impl Account {
     }
 
     /// use-1, use-13: books an accepted use; use-14, half-7: answers it.
-    fn take(&mut self, place: Place, kind: Kind, n: u64, cap: u64, charge: Charge) -> Answer {
+    pub(crate) fn take(&mut self, weighed: Weighed) -> Answer {
+        let Weighed {
+            place,
+            kind,
+            n,
+            cap,
+            charge,
+        } = weighed;
         let home = charge.home - self.home;
         let extra = charge.extra - self.extra;
         let notice = self.gives_notice(place, kind, n);
@@ -422,9 +471,12 @@ impl Account {
     /// Next day: 9. day-1: today becomes the newest of the log; the services
     /// step; day-3: the next day; limit-7: a bundle's month turns.
     pub fn next_day(&mut self) -> Result<Answer, u32> {
-        if !self.sound() {
-            return Err(0);
-        }
+        self.look()?;
+        self.change_day()
+    }
+
+    /// Next day on an account that is known to be sound.
+    pub(crate) fn change_day(&mut self) -> Result<Answer, u32> {
         if self.day == LAST_DAY {
             return Err(9);
         }
@@ -455,13 +507,16 @@ impl Account {
         self.afford_at(kind, &caps_on(self.day))
     }
 
-    /// Afford with the caps as an argument. Neither the cost nor what a record
-    /// is charged as falls as n grows, so the accepted n are those up to a
-    /// greatest one: it is found by halving.
+    /// Afford with the caps as an argument.
     pub fn afford_at(&self, kind: Kind, caps: &Caps) -> Result<Answer, u32> {
-        if !self.sound() {
-            return Err(0);
-        }
+        self.look()?;
+        Ok(Answer::Most(self.most(kind, caps)?))
+    }
+
+    /// Afford on an account that is known to be sound. Neither the cost nor
+    /// what a record is charged as falls as n grows, so the accepted n are
+    /// those up to a greatest one: it is found by halving.
+    pub(crate) fn most(&self, kind: Kind, caps: &Caps) -> Result<u64, u32> {
         let place = self.place.ok_or(3u32)?;
         let funds = self.home + self.extra + self.credit;
         let room = MAX_LIFETIME - self.lifetime[kind as usize];
@@ -475,7 +530,7 @@ impl Account {
                 most = n - 1;
             }
         }
-        Ok(Answer::Most(least))
+        Ok(least)
     }
 
     /// Any call of a list.

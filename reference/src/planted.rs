@@ -128,10 +128,44 @@ pub enum Wrong {
     EqualUnitsPrevail,
     /// day-2: a day that is marked elsewhere alone is off.
     ElsewhereDayOff,
+    /// family-6: a use of data adds to the monthly kB of the next card, too, as
+    /// far as that stays sound.
+    NextCardCountsToo,
+    /// family-2: a card's monthly kB grow in the zone alone.
+    MonthOfZoneAlone,
+    /// family-13: a use looks at the credit before it looks at the allowance.
+    CreditBeforeAllowance,
+    /// family-13: a use looks at the allowance before place, n and lifetime
+    /// units.
+    AllowanceFirst,
+    /// family-12: a call looks for its card before it looks at soundness.
+    CardBeforeSoundness,
+    /// family-8, family-11: the cards' units are added up without the last card.
+    LastCardNotSummed,
+    /// family-11: the cards' units are added up in 64 bits, and wrap.
+    CardSumsWrap,
+    /// family-11: monthly kB over a card's lifetime kB pass.
+    MonthPastLifetime,
+    /// family-11: monthly kB over a card's allowance pass.
+    MonthPastAllowance,
+    /// family-4: a card's month turns under a bundle alone.
+    MonthOfBundlesAlone,
+    /// afford-1, family-13: Afford takes no notice of the allowance.
+    AffordPastAllowance,
+    /// family-13: data that just comes to the allowance is refused.
+    AllowanceNotReached,
+    /// family-3: the opening leaves the cards' lifetime units.
+    OpeningKeepsUnits,
+    /// family-14: the opening looks at allowances before it counts the cards.
+    AllowanceBeforeList,
+    /// family-12: calls take a list of 17 cards.
+    OneCardMore,
+    /// family-12: every call refuses an empty list.
+    EmptyListRefused,
 }
 
 impl Wrong {
-    pub const ALL: [Wrong; 54] = [
+    pub const ALL: [Wrong; 70] = [
         Wrong::RoundsEachRecord,
         Wrong::LimitFromTopUp,
         Wrong::SurchargesTwice,
@@ -186,6 +220,22 @@ impl Wrong {
         Wrong::HomeIncomingCounts,
         Wrong::EqualUnitsPrevail,
         Wrong::ElsewhereDayOff,
+        Wrong::NextCardCountsToo,
+        Wrong::MonthOfZoneAlone,
+        Wrong::CreditBeforeAllowance,
+        Wrong::AllowanceFirst,
+        Wrong::CardBeforeSoundness,
+        Wrong::LastCardNotSummed,
+        Wrong::CardSumsWrap,
+        Wrong::MonthPastLifetime,
+        Wrong::MonthPastAllowance,
+        Wrong::MonthOfBundlesAlone,
+        Wrong::AffordPastAllowance,
+        Wrong::AllowanceNotReached,
+        Wrong::OpeningKeepsUnits,
+        Wrong::AllowanceBeforeList,
+        Wrong::OneCardMore,
+        Wrong::EmptyListRefused,
     ];
 }
 

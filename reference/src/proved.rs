@@ -1,6 +1,8 @@
 //! The proved meter, linked as a static library: the functions of
 //! include/meter.h. A slice passes as its pointer and its count.
 
+use crate::family::interface::BoxStep;
+use crate::family::Card;
 use crate::sides::Side;
 
 extern "C" {
@@ -71,7 +73,30 @@ extern "C" {
         answer_numbers: usize,
     ) -> u64;
     fn meter_caps(day: u64, answer: *mut u64, answer_numbers: usize) -> u64;
+    fn meter_box_open(
+        account: *mut u64,
+        numbers: usize,
+        cards: *mut Card,
+        card_count: usize,
+        plan: *const u64,
+        plan_numbers: usize,
+    ) -> u64;
+    fn meter_box_call(
+        account: *mut u64,
+        numbers: usize,
+        cards: *mut Card,
+        card_count: usize,
+        call: u64,
+        card: usize,
+        which: u64,
+        n: u64,
+        answer: *mut u64,
+        answer_numbers: usize,
+    ) -> u64;
 }
+
+// family-1: a card is six numbers of the header's `struct meter_card`.
+const _: () = assert!(size_of::<Card>() == 48 && align_of::<Card>() == 8);
 
 /// The proved meter.
 pub const SIDE: Side = Side {
@@ -89,6 +114,8 @@ pub const SIDE: Side = Side {
     write,
     call,
     caps,
+    box_open,
+    box_call,
 };
 
 // SAFETY, of every call below: each slice is valid for its count and aligned,
@@ -216,4 +243,34 @@ fn call(section: &[u8], position: usize, answer: &mut [u64]) -> u64 {
 
 fn caps(day: u64, answer: &mut [u64]) -> u64 {
     unsafe { meter_caps(day, answer.as_mut_ptr(), answer.len()) }
+}
+
+fn box_open(account: &mut [u64], cards: &mut [Card], plan: &[u64]) -> u64 {
+    unsafe {
+        meter_box_open(
+            account.as_mut_ptr(),
+            account.len(),
+            cards.as_mut_ptr(),
+            cards.len(),
+            plan.as_ptr(),
+            plan.len(),
+        )
+    }
+}
+
+fn box_call(account: &mut [u64], cards: &mut [Card], step: BoxStep, answer: &mut [u64]) -> u64 {
+    unsafe {
+        meter_box_call(
+            account.as_mut_ptr(),
+            account.len(),
+            cards.as_mut_ptr(),
+            cards.len(),
+            step.call,
+            step.card,
+            step.which,
+            step.n,
+            answer.as_mut_ptr(),
+            answer.len(),
+        )
+    }
 }

@@ -39,6 +39,11 @@ impl Rng {
         from[self.below(from.len() as u64) as usize]
     }
 
+    /// One of some, to be changed.
+    pub fn pick_mut<'a, T>(&mut self, from: &'a mut [T]) -> &'a mut T {
+        &mut from[self.below(from.len() as u64) as usize]
+    }
+
     /// So many random bytes.
     pub fn bytes(&mut self, count: usize) -> Vec<u8> {
         let words = (0..count.div_ceil(8)).map(|_| self.word().to_le_bytes());

@@ -2,6 +2,7 @@
 //! slices in place of pointers and counts. Rules library-3 to library-10.
 
 use crate::caps;
+use crate::family::interface::{box_call, box_open, BoxCaller, BoxOpener};
 use crate::meter::{Account, Answer};
 use crate::numbers::{account, numbers, put_log, put_rest, Numbers};
 use crate::plan::Plan;
@@ -62,6 +63,8 @@ pub struct Side {
     pub call: fn(&[u8], usize, &mut [u64]) -> u64,
     /// Day, answer.
     pub caps: fn(u64, &mut [u64]) -> u64,
+    pub box_open: BoxOpener,
+    pub box_call: BoxCaller,
 }
 
 /// This crate's meter.
@@ -80,6 +83,8 @@ pub const REFERENCE: Side = Side {
     write,
     call,
     caps,
+    box_open,
+    box_call,
 };
 
 /// The proved meter, if the crate was built with it.
@@ -245,7 +250,7 @@ fn answered<const N: usize>(
 
 /// library-4: the plan of seven numbers. No range reaches the last 32-bit word:
 /// what is wider is outside, too.
-fn plan_of(words: &[u64]) -> Option<Plan> {
+pub fn plan_of(words: &[u64]) -> Option<Plan> {
     let words: [u64; PLAN_NUMBERS] = words.try_into().ok()?;
     let narrow = |word: u64| u32::try_from(word).unwrap_or(u32::MAX);
     Some(Plan::from_words(words.map(narrow)))

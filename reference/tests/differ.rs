@@ -7,7 +7,7 @@ use reference::accounts::{made, reached};
 use reference::coverage::returns::Function;
 use reference::coverage::soundness::{broken, Condition};
 use reference::coverage::{events, list_events, Coverage, TripEvents};
-use reference::differ::{Differ, ACCOUNTS_OF_A_SEED, LAST_DAY};
+use reference::differ::{Differ, ACCOUNTS_OF_A_SEED, BOXES_OF_A_SEED, LAST_DAY};
 use reference::faults::{bad_plan, faults_of, first_number};
 use reference::numbers::account;
 use reference::plan::Plan;
@@ -15,6 +15,9 @@ use reference::rng::Rng;
 use reference::sides::{ACCEPTED, BAD_ARGUMENT, END, REFERENCE};
 use reference::writes::WriteCase;
 use std::collections::BTreeSet;
+
+/// So many of the seeds have a list on a box, too.
+const BOXES: u64 = 2000;
 
 /// A run of so many seeds, the days included.
 fn compared(seeds: u64) -> Differ {
@@ -25,6 +28,9 @@ fn compared(seeds: u64) -> Differ {
         differ.file(seed).expect("the same meter");
         differ.write(seed).expect("the same meter");
         differ.accounts(seed).expect("the same meter");
+        if seed <= BOXES {
+            differ.boxes(seed).expect("the same meter");
+        }
     }
     differ
 }
@@ -37,6 +43,8 @@ fn a_part_of_a_full_run_comes_to_every_event() {
     assert!(differ.trips > 2800 && differ.longest > 8000);
     assert_eq!(differ.files, 3000);
     assert_eq!(differ.accounts, 3000 * ACCOUNTS_OF_A_SEED);
+    assert_eq!(differ.boxes, BOXES);
+    assert_eq!(differ.any_boxes, BOXES * BOXES_OF_A_SEED);
     assert!(differ.days > 2 * LAST_DAY);
     let coverage = differ.coverage();
     assert_eq!(coverage.missing(&events()), [""; 0]);

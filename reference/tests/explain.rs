@@ -113,7 +113,7 @@ fn every_number_has_a_sentence() {
     let table = sentences_table();
     let sentences = sentences(&table);
     let numbers: Vec<u32> = sentences.keys().copied().collect();
-    assert_eq!(numbers, Vec::from_iter(0..=18));
+    assert_eq!(numbers, Vec::from_iter(0..=20));
     for (number, sentence) in sentences {
         assert!(sentence.ends_with('.'), "{number}");
         assert!(sentence.is_ascii() && sentence.len() > 10, "{number}");

@@ -1,7 +1,8 @@
 /* What the functions of the library cost, for tools/library_facts.sh.
  * measure stack: of each function the deepest stack in bytes, over trips under each form of plan and over files, read
  * and refused ones. A call is made on a painted stack, which is looked over after it.
- * measure FUNCTION COUNT: so many calls of a function, on an account with 123 logged days and Surcharged services.
+ * measure FUNCTION COUNT: so many calls of a function, on an account with 123 logged days and Surcharged services; of
+ * a box with 16 cards these are uses by the last one.
  * measure names: the functions. */
 #define _XOPEN_SOURCE 700
 #include <inttypes.h>
@@ -13,7 +14,8 @@
 #include "meter.h"
 
 enum {
-    OPEN, REGISTER, USE, TOP_UP, NEXT_DAY, AFFORD, IS_SOUND, RUN, STATEMENT, READ, FIND, WRITE, CALL, CAPS, FUNCTIONS
+    OPEN, REGISTER, USE, TOP_UP, NEXT_DAY, AFFORD, IS_SOUND, BOX_OPEN, BOX_CALL, RUN, STATEMENT, READ, FIND, WRITE,
+    CALL, CAPS, FUNCTIONS
 };
 enum { MOST_CALLS = 8184, MOST_BYTES = 65536, BEFORE_CALLS = 64, CALLS_SECTION = 2 };
 enum { DAYS_AWAY = 145, DAYS_BACK = 130 };
@@ -29,7 +31,11 @@ static uint64_t place = METER_ZONE, kind = METER_OUTGOING, units = 1, points = 1
 static uint32_t section_kind = CALLS_SECTION;
 static size_t calls = MOST_CALLS, bytes = MOST_BYTES;
 
+static uint64_t box_action = METER_BOX_USE;
+static size_t card = METER_BOX_CARDS - 1;
+
 static uint64_t account[METER_ACCOUNT_NUMBERS], answer[METER_STATEMENT_NUMBERS];
+static meter_card cards[METER_BOX_CARDS];
 static uint32_t codes[MOST_CALLS], numbers[MOST_CALLS];
 static uint8_t file[MOST_BYTES], written[MOST_BYTES];
 
@@ -74,6 +80,20 @@ static uint64_t call_afford(void)
 static uint64_t call_is_sound(void)
 {
     return meter_is_sound(account, METER_ACCOUNT_NUMBERS);
+}
+
+static uint64_t call_box_open(void)
+{
+    return meter_box_open(account, METER_ACCOUNT_NUMBERS, cards, METER_BOX_CARDS, plan, METER_PLAN_NUMBERS);
+}
+
+static uint64_t call_box_call(void)
+{
+    uint64_t which = box_action == METER_BOX_REGISTER ? place : kind;
+    uint64_t n = box_action == METER_BOX_TOP_UP ? points : units;
+
+    return meter_box_call(account, METER_ACCOUNT_NUMBERS, cards, METER_BOX_CARDS, box_action, card, which, n, answer,
+                          METER_USE_NUMBERS);
 }
 
 static uint64_t call_run(void)
@@ -123,6 +143,8 @@ static const struct {
     {"meter_next_day", call_next_day},
     {"meter_afford", call_afford},
     {"meter_is_sound", call_is_sound},
+    {"meter_box_open", call_box_open},
+    {"meter_box_call", call_box_call},
     {"meter_run", call_run},
     {"meter_statement", call_statement},
     {"meter_read", call_read},
@@ -202,6 +224,30 @@ static void use_of_each_kind(uint64_t n)
     }
 }
 
+/* Cards whose units add up to those of the account: all are the first card's. */
+static void match_cards(void)
+{
+    const uint64_t *lifetime = account + METER_AT_LIFETIME;
+    size_t i;
+
+    for (i = 0; i < METER_BOX_CARDS; i++)
+        cards[i] = (meter_card){0, 0, 0, 0, 0, 1000000000000};
+    cards[0].kb = lifetime[0];
+    cards[0].outgoing = lifetime[1];
+    cards[0].incoming = lifetime[2];
+    cards[0].sms = lifetime[3];
+}
+
+static void box_calls(uint64_t n)
+{
+    units = n;
+    match_cards();
+    for (kind = METER_DATA; kind <= METER_SMS; kind++)
+        for (box_action = METER_BOX_REGISTER; box_action <= METER_BOX_AFFORD + 1; box_action++)
+            if (box_action != METER_BOX_NEXT_DAY)
+                make(BOX_CALL);
+}
+
 static void day_at(uint64_t where)
 {
     place = where;
@@ -211,6 +257,8 @@ static void day_at(uint64_t where)
     use_of_each_kind(10);
     use_of_each_kind(0);
     use_of_each_kind(1000000000);
+    box_calls(10);
+    box_calls(1000000000);
     make(NEXT_DAY);
 }
 
@@ -227,6 +275,7 @@ static void trip_under(const uint64_t *terms)
 
     plan = terms;
     points = 10000000;
+    make(BOX_OPEN);
     make(OPEN);
     use_of_each_kind(1);
     days_at(METER_ZONE, DAYS_AWAY);
@@ -236,6 +285,9 @@ static void trip_under(const uint64_t *terms)
     if (services[0] != 0 || services[1] != 0 || services[2] != 0)
         die("some service is not Clear after the days at home");
     days_at(METER_ELSEWHERE, 1);
+    match_cards();
+    box_action = METER_BOX_NEXT_DAY;
+    make(BOX_CALL);
     account[METER_AT_PLACE] = 4;
     day_at(METER_HOME);
 }
@@ -329,6 +381,7 @@ static void measure_stack(void)
 {
     plan = no_plan;
     make(OPEN);
+    make(BOX_OPEN);
     trip_under(prepaid);
     trip_under(bundle);
     trip_under(unlimited);
@@ -361,6 +414,8 @@ static void prepare(void)
         die("the account is not as it should be");
     points = 1;
     units = 1;
+    match_cards();
+    box_action = METER_BOX_USE;
 }
 
 static void make_many(int function, long count)

@@ -99,7 +99,7 @@ absorb-held a t = go (is-empty t) refl
     go true e = rw (is-empty-true t e, absorb-none) (sym (both-none (held a)))
     go false e = rw (absorb-some a t e) (unfold held taking spend spent in refl)
 
-absorb-inj : (a : Account) (t v : Taken) → absorb a t ≡ absorb a v → t ≡ v
+pub absorb-inj : (a : Account) (t v : Taken) → absorb a t ≡ absorb a v → t ≡ v
 absorb-inj a t v e =
     let l : both-taken (held a) t ≡ both-taken (held a) v = sym (absorb-held a t) ∙ ap held e ∙ absorb-held a v in
     let k : t .units .kb ≡ v .units .kb = omega (arith, ap (λ (x : Taken). x .units .kb) l) in

@@ -17,7 +17,7 @@ use Rattle.state.specs.declared.State.{State}
 use Rattle.state.specs.declared.Answer.{Answer}
 use Rattle.state.specs.declared.Answer.the-variants.{Done, Charged, UpTo, Refused}
 use Rattle.state.specs.declared.StateApplied.{StateApplied}
-use Rattle.state.specs.Reasons.{answer-by}
+use Rattle.state.specs.Reasons.{answer-by, is-taken}
 use Rattle.account.specs.declared.Account.{Account}
 use Rattle.account.specs.declared.Applied.{Applied}
 use Rattle.account.specs.declared.Call.{Call}
@@ -33,7 +33,7 @@ use Rattle.numbers.proofs.Laid.{parts-join}
 use Rattle.numbers.proofs.Back.{account-back, numbers-back}
 use Rattle.meter.specs.Answers.{laid}
 use Rattle.meter.specs.Claims.{CallsFollowTheAccount, RefusedChangesNoNumber}
-use Rattle.meter.specs.Calls.{call-answer, call-numbers, sound-numbers, kind-with-room, is-taken, answer-size, settled, Settles}
+use Rattle.meter.specs.Calls.{call-answer, call-numbers, sound-numbers, kind-with-room, answer-size, settled, Settles}
 
 -- the log's part, and another log before the same rest
 pub prefix-length : (xs : List ℕ) → length xs ≡ 1649 → length (take 1599 xs) ≡ 1599
@@ -76,16 +76,26 @@ taken-is a c = go (verdict a c) c
 pub writable : (a : Account) → Sound a → Writable (a .state)
 writable a s = let f = s .counters in record { allowance = f .allowance-ok; internet = f .internet-ok; calls = f .calls-ok; messages = f .messages-ok }
 
-settles : (a : Account) (c : Call) → Settles (applied-state (applied a c))
-unfolding applied
-settles a c h = go (sound a) refl
-  where
-    go : (b : Bool) → sound a ≡ b → Writable (step a c .state)
-    go true e = writable (step a c) (sound-step a c (sound-tells a e))
-    go false e = absurd (false≢true (ap (λ (x : Applied). is-taken (x .answer)) (unsound a c e) ∙ h))
+-- what a call hands back: an accepted one a sound account, a refused one the account as it was, each with a whole log
+pub record Handed (a : Account) (x : Applied) : Type 0 where
+  pub next-sound : is-taken (x .answer) ≡ true → Sound (x .account)
+  pub same : is-taken (x .answer) ≡ false → x .account ≡ a
+  pub sized : length (a .log) ≡ 1599 → length (x .account .log) ≡ 1599
 
-pub settles-of : (x : StateApplied) (a : Account) (c : Call) → x ≡ applied-state (applied a c) → Settles x
-settles-of x a c e = rw e (settles a c)
+pub call-handed : (a : Account) (c : Call) → Handed a (applied a c)
+unfolding applied
+call-handed a c = record {
+  next-sound = λ h. go h (sound a) refl;
+  same = λ h. refused-changes-nothing a c (sym (taken-is a c) ∙ h);
+  sized = step-size a c;
+}
+  where
+    go : is-taken (applied a c .answer) ≡ true → (b : Bool) → sound a ≡ b → Sound (step a c)
+    go h true e = sound-step a c (sound-tells a e)
+    go h false e = absurd (false≢true (ap (λ (x : Applied). is-taken (x .answer)) (unsound a c e) ∙ h))
+
+pub settles-of : (x : StateApplied) (a : Account) (y : Applied) → Handed a y → x ≡ applied-state y → Settles x
+settles-of x a y h e = rw e (λ t. writable (y .account) (h .next-sound t))
 
 pub settled-yes : (x : StateApplied) (zs : List ℕ) → is-taken (x .answer) ≡ true → log-part zs ++ state-numbers (x .state) ≡ settled x zs
 unfolding settled
@@ -96,38 +106,47 @@ unfolding settled
 settled-no x zs e = rw e refl
 
 -- the log that a call leaves
-pub new-length : (xs : List ℕ) (c : Call) (l : List ℕ) → is-account xs ≡ true → l ≡ step (account-from xs) c .log → length l ≡ 1599
-new-length xs c l h e = ap length e ∙ step-size (account-from xs) c (numbers-back xs h .sized)
-
--- the state of an accepted call behind that log; a refused one leaves all as it was
-taken-laid : (a : Account) (c : Call) (l xs : List ℕ) → length l ≡ 1599 → l ≡ step a c .log → log-part (l ++ drop 1599 xs) ++ state-numbers (step a c .state) ≡ account-numbers (step a c)
-unfolding account-numbers
-taken-laid a c l xs h e = ap (λ (t : List ℕ). t ++ state-numbers (step a c .state)) (log-new l xs h ∙ e)
+pub new-length : (xs : List ℕ) (y : Applied) (l : List ℕ) → is-account xs ≡ true → Handed (account-from xs) y
+    → l ≡ y .account .log → length l ≡ 1599
+new-length xs y l h k e = ap length e ∙ k .sized (numbers-back xs h .sized)
 
 log-is : (xs : List ℕ) → account-from xs .log ≡ log-part xs
 unfolding account-from
 log-is xs = refl
 
-refused-laid : (xs l : List ℕ) (c : Call) → is-account xs ≡ true → accepts (account-from xs) c ≡ false → l ≡ step (account-from xs) c .log → l ++ drop 1599 xs ≡ account-numbers (step (account-from xs) c)
-refused-laid xs l c h n e =
-    let same : step (account-from xs) c ≡ account-from xs = refused-changes-nothing (account-from xs) c n in
-    let old : l ≡ log-part xs = e ∙ (ap (λ (x : Account). x .log) same ∙ log-is xs) in
-    ap (λ (t : List ℕ). t ++ drop 1599 xs) old ∙ (log-joined xs ∙ (sym (numbers-back xs h .back) ∙ ap account-numbers (sym same)))
+-- the state of an accepted call behind that log; a refused one leaves all as it was
+taken-laid : (b : Account) (l xs : List ℕ) → length l ≡ 1599 → l ≡ b .log
+    → log-part (l ++ drop 1599 xs) ++ state-numbers (b .state) ≡ account-numbers b
+unfolding account-numbers
+taken-laid b l xs h e = ap (λ (t : List ℕ). t ++ state-numbers (b .state)) (log-new l xs h ∙ e)
 
-settled-is : (xs l : List ℕ) (c : Call) → is-account xs ≡ true → l ≡ step (account-from xs) c .log
-    → settled (applied-state (applied (account-from xs) c)) (l ++ drop 1599 xs) ≡ account-numbers (step (account-from xs) c)
-settled-is xs l c h e = go (accepts (account-from xs) c) refl
+refused-laid : (xs l : List ℕ) (b : Account) → is-account xs ≡ true → b ≡ account-from xs → l ≡ b .log
+    → l ++ drop 1599 xs ≡ account-numbers b
+refused-laid xs l b h same e =
+    let old : l ≡ log-part xs = e ∙ (ap (λ (x : Account). x .log) same ∙ log-is xs) in
+    ap (λ (t : List ℕ). t ++ drop 1599 xs) old
+    ∙ (log-joined xs ∙ (sym (numbers-back xs h .back) ∙ ap account-numbers (sym same)))
+
+pub settled-is : (xs l : List ℕ) (y : Applied) → is-account xs ≡ true → Handed (account-from xs) y → l ≡ y .account .log
+    → settled (applied-state y) (l ++ drop 1599 xs) ≡ account-numbers (y .account)
+settled-is xs l y h k e = go (is-taken (y .answer)) refl
   where
-    go : (b : Bool) → accepts (account-from xs) c ≡ b → settled (applied-state (applied (account-from xs) c)) (l ++ drop 1599 xs) ≡ account-numbers (step (account-from xs) c)
-    go true n = sym (settled-yes (applied-state (applied (account-from xs) c)) (l ++ drop 1599 xs) (taken-is (account-from xs) c ∙ n)) ∙ (unfold applied in taken-laid (account-from xs) c l xs (new-length xs c l h e) e)
-    go false n = sym (settled-no (applied-state (applied (account-from xs) c)) (l ++ drop 1599 xs) (taken-is (account-from xs) c ∙ n)) ∙ refused-laid xs l c h n e
+    go : (b : Bool) → is-taken (y .answer) ≡ b → settled (applied-state y) (l ++ drop 1599 xs) ≡ account-numbers (y .account)
+    go true n =
+        sym (settled-yes (applied-state y) (l ++ drop 1599 xs) n)
+        ∙ taken-laid (y .account) l xs (new-length xs y l h k e) e
+    go false n = sym (settled-no (applied-state y) (l ++ drop 1599 xs) n) ∙ refused-laid xs l (y .account) h (k .same n) e
 
 -- the answer and the numbers after a call, from what it answers with all but the log, and the log
 pub done-of : (xs l : List ℕ) (c : Call) (x : StateApplied) → is-account xs ≡ true → x ≡ applied-state (applied (account-from xs) c)
     → l ≡ step (account-from xs) c .log → (x .answer ≡ call-answer xs c) × (settled x (l ++ drop 1599 xs) ≡ call-numbers xs c)
 unfolding call-answer call-numbers
 done-of xs l c x h e f =
-    (rw h (ap (λ (y : StateApplied). y .answer) e), rw h (ap (λ (y : StateApplied). settled y (l ++ drop 1599 xs)) e ∙ (settled-is xs l c h f ∙ (unfold applied in refl))))
+    let k = call-handed (account-from xs) c in (
+      rw h (ap (λ (y : StateApplied). y .answer) e),
+      rw h (ap (λ (y : StateApplied). settled y (l ++ drop 1599 xs)) e
+          ∙ settled-is xs l (applied (account-from xs) c) h k (f ∙ (unfold applied in refl))),
+    )
 
 -- of a call that leaves the numbers, the answer
 pub answered : (xs : List ℕ) (c : Call) (x : Answer) → is-account xs ≡ true → x ≡ applied (account-from xs) c .answer → x ≡ call-answer xs c

@@ -67,7 +67,7 @@ plan-in : Plan → PlanAnswer → Plan
 plan-in q (Planned.Granted p) = p
 plan-in q (Planned.Refused n) = q
 
-granted-is : (t : Terms) (p : Plan) → plan-of t ≡ Planned.Granted p → (verdict-of (terms-reasons t) ≡ Accepted) × (plan-with t ≡ p)
+pub granted-is : (t : Terms) (p : Plan) → plan-of t ≡ Planned.Granted p → (verdict-of (terms-reasons t) ≡ Accepted) × (plan-with t ≡ p)
 unfolding plan-of plan-in
 granted-is t p e = go (verdict-of (terms-reasons t)) refl e
   where
@@ -75,7 +75,7 @@ granted-is t p e = go (verdict-of (terms-reasons t)) refl e
     go Accepted d g = (d, ap (plan-in p) g)
     go (Refused n) d g = (cc, cc)
 
-declined-is : (t : Terms) (n : ℕ) → plan-of t ≡ Planned.Refused n → verdict-of (terms-reasons t) ≡ Refused n
+pub declined-is : (t : Terms) (n : ℕ) → plan-of t ≡ Planned.Refused n → verdict-of (terms-reasons t) ≡ Refused n
 unfolding plan-of
 declined-is t n e = go (verdict-of (terms-reasons t)) refl e
   where

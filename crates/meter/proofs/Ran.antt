@@ -30,7 +30,7 @@ use Rattle.sections.specs.Find.{find-verdict, part-of, part-start, part-length,
 use Rattle.sections.specs.declared.Extent.{Extent}
 use Rattle.sections.proofs.Finding.{found-both, section-is, length-part}
 use Rattle.sections.proofs.Table.{keeps}
-use Rattle.sections.proofs.Verdicts.{accepted-is}
+use Rattle.tariff.proofs.Verdicts.{accepted-is}
 use Rattle.tripfile.specs.declared.Read.{Read}
 use Rattle.tripfile.specs.declared.Read.the-variants as Told
 use Rattle.tripfile.specs.Bodies as File

@@ -2,7 +2,7 @@
 -- library"): another count than 1,649 numbers; arguments of no call; a refused Open; a refused call. Assumes nothing.
 use Prim.Native.Nat.{ℕ}
 use mathlib.Core.Path.{_≡_}
-use mathlib.Core.Bool.{Bool, true, false, cond, _&&_}
+use mathlib.Core.Bool.{Bool, true, cond, _&&_}
 use mathlib.Core.List.{List, _++_}
 use lib.ListN.{length}
 use lib.Dec.{leb, eqb}
@@ -17,6 +17,7 @@ use Rattle.tariff.specs.Plan.{plan-with, terms-reasons}
 use Rattle.state.specs.declared.Answer.{Answer}
 use Rattle.state.specs.declared.Answer.the-variants.{Done, Charged, UpTo, Refused}
 use Rattle.state.specs.declared.StateApplied.{StateApplied}
+use Rattle.state.specs.Reasons.{is-taken}
 use Rattle.account.specs.declared.Call.{Call}
 use Rattle.account.specs.Whole.{sound}
 use Rattle.account.specs.Answers.{open-answer, applied}
@@ -76,13 +77,6 @@ answer-size Done = 0
 answer-size (Charged c) = 5
 answer-size (UpTo n) = 1
 answer-size (Refused n) = 0
-
--- aid: was the call accepted?
-abbrev pub is-taken : Answer → Bool
-is-taken Done = true
-is-taken (Charged c) = true
-is-taken (UpTo n) = true
-is-taken (Refused n) = false
 
 -- aid: what an accepted call makes of all but the log, over the numbers with the log as the call left it
 unfoldable pub settled : StateApplied → List ℕ → List ℕ

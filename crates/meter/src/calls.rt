@@ -1,72 +1,18 @@
 // Calls on an account in the caller's memory.
 use super::answer_code;
-use super::one_if;
-use super::put_first;
-use super::put_number;
+use super::kind_of;
+use super::place_of;
+use super::put_answer;
+use super::settle;
 use super::sound_held;
 use account::Call;
 use state::Answer;
-use state::Charge;
-use state::StateApplied;
 use tariff::Kind;
-use tariff::Place;
 ghost use mathlib.Core.Path.{_≡_};
-ghost use mathlib.Core.Bool.{true, cond};
-ghost use Prim.Native.Nat.{_≤_, _<_};
-ghost use lib.ListN.{length};
-ghost use Rattle.meter.specs.Answers.{laid, answer-code, charge-numbers, answer-laid, bad-argument, accepted};
+ghost use mathlib.Core.Bool.{cond};
+ghost use Rattle.meter.specs.Answers.{answer-code, answer-laid, bad-argument, accepted};
 ghost use Rattle.meter.specs.Calls.{call-answer, call-numbers, sound-numbers, kind-from, is-place};
-ghost use Rattle.meter.specs.Calls.{place-named, kind-with-room, answer-size, is-taken, settled, Settles};
-
-fn kind_of(n: u64) -> Kind
-    ensures { λ r. ⌜ r ≡ kind-from n ⌝ }
-{
-    if n == 0 {
-        return Kind::Data;
-    }
-    if n == 1 {
-        return Kind::Outgoing;
-    }
-    if n == 2 {
-        return Kind::Incoming;
-    }
-    Kind::Sms
-}
-
-fn place_of(n: u64) -> Place
-    ensures { λ r. ⌜ r ≡ place-named n ⌝ }
-{
-    if n == 0 {
-        return Place::Home;
-    }
-    if n == 1 {
-        return Place::Zone;
-    }
-    Place::Elsewhere
-}
-
-fn taken(x: Answer) -> bool
-    ensures { λ r. ⌜ r ≡ is-taken x ⌝ }
-{
-    match x {
-        Answer::Done => true,
-        Answer::Charged(_) => true,
-        Answer::UpTo(_) => true,
-        Answer::Refused(_) => false,
-    }
-}
-
-// What an accepted call makes of all but the log, over the old numbers.
-fn settle(account: &mut [u64], done: StateApplied)
-    requires { ⌜ (length (now account) ≡ 1649) × Settles done ⌝ }
-    ensures { λ _. ⌜ now (account .exit) ≡ settled done (now (account .entry)) ⌝ }
-{
-    let x = done.answer;
-    let next = done.state;
-    if taken(x) {
-        numbers::put_state(account, next);
-    }
-}
+ghost use Rattle.meter.specs.Calls.{place-named, kind-with-room};
 
 // A call of any kind, with the log where it stands.
 fn call_on(account: &mut [u64], c: Call) -> Answer
@@ -112,29 +58,6 @@ pub extern "C" fn meter_next_day(account: &mut [u64]) -> u64
     ensures numbers { λ _. ⌜ now (account .exit) ≡ call-numbers (now (account .entry)) Call.NextDay ⌝ }
 {
     answer_code(call_on(account, Call::NextDay))
-}
-
-// A use's charge into the first five numbers of a list.
-fn put_charge(out: &mut [u64], c: Charge)
-    requires { ⌜ 5 ≤ length (now out) ⌝ }
-    ensures { λ _. ⌜ now (out .exit) ≡ laid (charge-numbers c) (now (out .entry)) ⌝ }
-{
-    let notice = one_if(c.notice);
-    let ns = [c.home, c.extra, c.surcharged, c.charged, notice];
-    put_first(out, &ns);
-}
-
-// What a call answers, beyond its code, into a list with room for it.
-fn put_answer(out: &mut [u64], x: Answer)
-    requires { ⌜ answer-size x ≤ length (now out) ⌝ }
-    ensures { λ _. ⌜ now (out .exit) ≡ answer-laid x (now (out .entry)) ⌝ }
-{
-    match x {
-        Answer::Done => {}
-        Answer::Charged(c) => put_charge(out, c),
-        Answer::UpTo(n) => put_number(out, n),
-        Answer::Refused(_) => {}
-    }
 }
 
 // A use of n units of a kind: 0 data, 1 outgoing, 2 incoming, 3 SMS. Refusals 0, 3, 4, 5, 6.

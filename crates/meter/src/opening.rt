@@ -1,39 +1,8 @@
 // Opening an account in the caller's memory.
-use tariff::Plan;
+use super::open_on;
 use tariff::PlanAnswer;
 ghost use mathlib.Core.Path.{_≡_};
-ghost use mathlib.Core.Bool.{true};
-ghost use mathlib.Core.List.{_++_};
-ghost use Prim.Native.Nat.{_+_, _≤_, _<_};
-ghost use lib.ListN.{length, drop, replicate};
-ghost use Rattle.tariff.specs.Tests.{is-accepted};
-ghost use Rattle.tariff.specs.Plan.{plan-verdict};
-ghost use Rattle.account.specs.Answers.{open-answer};
-ghost use Rattle.numbers.specs.Numbers.{account-numbers};
 ghost use Rattle.meter.specs.Calls.{open-code, open-numbers};
-
-// The first n numbers 0.
-fn blank(s: &mut [u64], n: usize)
-    requires { ⌜ n ≤ length (now s) ⌝ }
-    ensures { λ _. ⌜ now (s .exit) ≡ replicate n 0 ++ drop n (now (s .entry)) ⌝ }
-{
-    let mut i: usize = 0;
-    while i < n {
-        s[i] = 0;
-        i += 1;
-    }
-}
-
-// The account of an accepted plan, over any numbers.
-fn open_on(account: &mut [u64], p: Plan)
-    requires { ⌜ (length (now account) ≡ 1649) × (is-accepted (plan-verdict p) ≡ true) ⌝ }
-    ensures { λ _. ⌜ now (account .exit) ≡ account-numbers (open-answer p .account) ⌝ }
-{
-    blank(account, 1599);
-    let opened = account::open_with(p);
-    let state = opened.state;
-    numbers::put_state(account, state);
-}
 
 // A new account under a plan of seven numbers: form, start day, three prices, fee, volume. Refusals 0, for another
 // count of numbers, 1, 17, 18 and 2.

@@ -10,6 +10,8 @@ use Rattle.tariff.specs.Tests.{Reason, verdict-of}
 use Rattle.tariff.specs.Plan.{amount-reasons, plan-reasons, terms-reasons}
 use Rattle.state.specs.Reasons.{use-reasons, top-up-reasons, next-day-reasons}
 use Rattle.account.specs.Calls.{own-reasons, reasons}
+use Rattle.family.specs.Box.{plain, before, with-allowance, box-reasons}
+use Rattle.family.specs.Answers.{card-reasons, open-reasons}
 use Rattle.sections.specs.Table.{file-reasons}
 use Rattle.sections.specs.Find.{find-reasons}
 use Rattle.tripfile.specs.Reading.{body-reasons, read-reasons}
@@ -31,7 +33,7 @@ only-these (r ∷ rs) n h = go (r .holds) (λ e. only-these rs n e) h
     go false f e = rw (f e) (or-right (eqb n (r .number)))
 
 pub reasons-in-order : ReasonsInOrder
-unfolding numbers amount-reasons plan-reasons terms-reasons use-reasons top-up-reasons next-day-reasons own-reasons reasons file-reasons find-reasons body-reasons read-reasons calls-reasons write-reasons
+unfolding numbers amount-reasons plan-reasons terms-reasons use-reasons top-up-reasons next-day-reasons own-reasons reasons file-reasons find-reasons body-reasons read-reasons calls-reasons write-reasons plain before with-allowance box-reasons card-reasons open-reasons
 reasons-in-order = record {
   of-open = λ p. refl;
   of-register = λ a p. refl;
@@ -42,5 +44,11 @@ reasons-in-order = record {
   of-read = λ f. refl;
   of-find = λ f k. refl;
   of-write = λ p cs ns room. refl;
+  of-open-box = λ p cs. refl;
+  of-register-box = λ b p. refl;
+  of-use-card = λ b i k n. refl;
+  of-top-up-box = λ b n. refl;
+  of-next-day-box = λ b. refl;
+  of-afford-card = λ b i k. refl;
   only-these = only-these;
 }

@@ -16,7 +16,7 @@ use Rattle.tariff.specs.Tests.{verdict-of, is-accepted}
 use Rattle.tariff.specs.Plan.{form-word, form-of, plan-with, plan-verdict}
 use Rattle.sections.specs.Table.{section-count, start-at, length-at, body-start}
 use Rattle.sections.specs.Find.{part-of}
-use Rattle.sections.proofs.Verdicts.{then, accepted-is}
+use Rattle.tariff.proofs.Verdicts.{then, accepted-is}
 use Rattle.sections.proofs.Table.{keeps, entry-start, body-more}
 use Rattle.sections.proofs.Finding.{found, section-is}
 use Rattle.tripfile.specs.declared.Written.the-variants as Wrote

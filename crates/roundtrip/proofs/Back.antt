@@ -22,7 +22,7 @@ use Rattle.tariff.proofs.Tests.{and-both}
 use Rattle.tariff.proofs.PlanLaws.{known-form}
 use Rattle.sections.specs.Table.{file-verdict}
 use Rattle.sections.specs.Find.{just-once, part-of}
-use Rattle.sections.proofs.Verdicts.{then, accepted-is}
+use Rattle.tariff.proofs.Verdicts.{then, accepted-is}
 use Rattle.sections.proofs.Finding.{found, section-is}
 use Rattle.tripfile.specs.declared.Read.the-variants.{Trip}
 use Rattle.tripfile.specs.declared.Written.the-variants as Wrote

@@ -13,7 +13,7 @@ use Rattle.tariff.specs.declared.Verdict.{Verdict}
 use Rattle.tariff.specs.declared.Verdict.the-variants.{Accepted, Refused}
 use Rattle.sections.specs.Table.{section-count, kind-at, start-at, length-at, body-start, file-reasons, file-verdict}
 use Rattle.sections.specs.Find.{one-if, times-to, entry-to, just-once, part-of, find-reasons, find-verdict, or-nothing, section-of, part-start, part-length}
-use Rattle.sections.proofs.Verdicts.{then, verdict-append, then-both}
+use Rattle.tariff.proofs.Verdicts.{then, verdict-append, then-both}
 use Rattle.sections.proofs.Table.{Keeps, entry-start, body-more, body-grows}
 
 -- finding declines what the file is declined for, and then 13

@@ -12,7 +12,7 @@ use Rattle.words.specs.Words.{word, wrapped-sum}
 use Rattle.tariff.specs.Tests.{verdict-of, is-accepted}
 use Rattle.tariff.proofs.Tests.{and-left, and-right, first-fails, rest-accepts, not-false}
 use Rattle.sections.specs.Table.{length-right, sum-right, table-right, section-count, start-at, length-at, body-start, follow-to, file-reasons, file-verdict}
-use Rattle.sections.proofs.Verdicts.{and-four}
+use Rattle.tariff.proofs.Verdicts.{and-four}
 
 pub record Keeps (f : List ℕ) : Type 0 where
   pub long : 12 ≤ length f

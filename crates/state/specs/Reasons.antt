@@ -1,7 +1,7 @@
 -- The reasons of each call but 0, in order, and a use by them (refusal-3 to refusal-9, order-3, half-5). Choices
 -- (docs/DECISIONS.md, "Account"): refusal 5; refusal 5 of charged seconds; refusal 6. Assumes nothing.
 use Prim.Native.Nat.{ℕ, _+_}
-use mathlib.Core.Bool.{Bool, not, cond, _||_}
+use mathlib.Core.Bool.{Bool, true, false, not, cond, _||_}
 use mathlib.Core.List.{List, [], _∷_}
 use lib.Dec.{leb, ltb}
 use Rattle.tariff.specs.declared.Kind.{Kind}
@@ -42,6 +42,13 @@ next-day-reasons a = because 9 (leb 3833 (a .day)) ∷ []
 abbrev pub answer-by : Verdict → Answer → Answer
 answer-by Accepted x = x
 answer-by (Refused n) x = Told.Refused n
+
+-- order-2, form-8: the answer of an accepted call
+abbrev pub is-taken : Answer → Bool
+is-taken Told.Done = true
+is-taken (Told.Charged c) = true
+is-taken (Told.UpTo n) = true
+is-taken (Told.Refused n) = false
 
 -- order-2, use-13, use-14, promise-2: a use on a sound account, its answer and all but the log
 unfoldable pub use-state : State → Kind → ℕ → StateApplied

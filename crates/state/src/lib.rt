@@ -12,6 +12,8 @@ use presence::Services;
 use tariff::Allowance;
 use tariff::Plan;
 use tariff::Units;
+ghost use mathlib.Core.Path.{_≡_};
+ghost use Rattle.state.specs.Reasons.{is-taken};
 
 // Points: what is left, what was paid in, and what home charges and surcharges took of it.
 pub struct Money {
@@ -85,4 +87,16 @@ pub struct Bill {
     pub extra: u64,
     pub counted: u64,
     pub zone: u64,
+}
+
+// Is it the answer of an accepted call?
+pub fn taken(x: Answer) -> bool
+    ensures { λ r. ⌜ r ≡ is-taken x ⌝ }
+{
+    match x {
+        Answer::Done => true,
+        Answer::Charged(_) => true,
+        Answer::UpTo(_) => true,
+        Answer::Refused(_) => false,
+    }
 }

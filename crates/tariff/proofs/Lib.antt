@@ -5,3 +5,4 @@ pub mod Tables
 pub mod PlanLaws
 pub mod Faults
 pub mod ChargeLaws
+pub mod Verdicts

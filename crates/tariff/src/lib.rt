@@ -7,6 +7,7 @@ pub mod claims;
 pub mod plans;
 
 // Units of each kind of use: kB, outgoing seconds, incoming seconds, SMS. Also a number for each kind, as caps.
+#[repr(C)]
 pub struct Units {
     pub kb: u64,
     pub outgoing: u64,

@@ -20,7 +20,7 @@ use Rattle.tariff.proofs.Tests.{and-left, and-right, first-fails, rest-accepts,
 use Rattle.tariff.proofs.PlanLaws.{plan-ranged, opens-tells, known-form, form-known}
 use Rattle.sections.specs.Table.{file-reasons, file-verdict}
 use Rattle.sections.specs.Find.{just-once, part-of}
-use Rattle.sections.proofs.Verdicts.{then, verdict-append, then-both, and-three}
+use Rattle.tariff.proofs.Verdicts.{then, verdict-append, then-both, and-three}
 use Rattle.tripfile.specs.declared.Read.the-variants as Answer
 use Rattle.tripfile.specs.Bodies.{terms-in, calls-in, calls-right, paired, PlanFits}
 use Rattle.tripfile.specs.Reading.{calls-body-right, body-reasons, read-reasons, read-verdict, read-answer}

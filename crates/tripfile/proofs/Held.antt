@@ -14,7 +14,7 @@ use Rattle.tariff.specs.Tests.{between, is-accepted}
 use Rattle.tariff.specs.Plan.{plan-verdict, plan-with}
 use Rattle.tariff.proofs.Tests.{and-left, and-right, not-true, not-false}
 use Rattle.sections.specs.Find.{find-verdict, section-of, part-of}
-use Rattle.sections.proofs.Verdicts.{and-three}
+use Rattle.tariff.proofs.Verdicts.{and-three}
 use Rattle.sections.proofs.Table.{keeps}
 use Rattle.sections.proofs.Finding.{found, section-is, parts-fit}
 use Rattle.tripfile.specs.declared.Read.the-variants.{Trip}

@@ -11,7 +11,7 @@ use crate::rng::Rng;
 use crate::services::LOG_DAYS;
 
 /// A sound account with room on all sides, for the edges.
-fn roomy(rng: &mut Rng, form: u32) -> Box<Numbers> {
+pub(crate) fn roomy(rng: &mut Rng, form: u32) -> Box<Numbers> {
     let mut all = Box::new([0; ACCOUNT_NUMBERS]);
     let mut plan = plan_of(rng, form);
     (plan.minute_price, plan.sms_price) = (rng.below(1000) as u32, rng.below(1000) as u32);

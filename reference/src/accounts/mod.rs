@@ -77,7 +77,7 @@ pub fn made(rng: &mut Rng) -> Box<Numbers> {
 }
 
 /// A number up to another: often 0, or that one, or a little less.
-fn some_of(rng: &mut Rng, most: u64) -> u64 {
+pub(crate) fn some_of(rng: &mut Rng, most: u64) -> u64 {
     match rng.below(6) {
         0 => 0,
         1 => most,

@@ -1,7 +1,8 @@
-//! differ [--seed S] [--trips N] [--damaged N] [--accounts N] [--seconds T]
-//! [--events]: the caps of every day up to 4,000 and of larger numbers, random
-//! trips call by call, files sound and damaged, as many random writes as files,
-//! and accounts of any numbers, through the proved meter and this crate's. The
+//! differ [--seed S] [--trips N] [--damaged N] [--accounts N] [--boxes N]
+//! [--seconds T] [--events]: the caps of every day up to 4,000 and of larger
+//! numbers, random trips call by call, files sound and damaged, as many random
+//! writes as files, accounts of any numbers, lists on family boxes and with each
+//! some boxes of any numbers, through the proved meter and this crate's. The
 //! processors share the work. Shows the events that were reached by the fewest,
 //! or all of them. Ends with 1 if the meters disagree or if demand 3 fails, with
 //! 3 if an event was missed, and with 2 if the proved library is missing.
@@ -18,11 +19,12 @@ use std::time::{Duration, Instant};
 const TRIPS: u64 = 20_000;
 const FILES: u64 = 20_000;
 const ACCOUNTS: u64 = 200_000;
+const BOXES: u64 = 10_000;
 const PROGRESS: Duration = Duration::from_secs(10);
 /// So many of the events are shown that were reached by the fewest.
 const SCARCEST: usize = 10;
 const USAGE: &str = "usage: differ [--seed S] [--trips N] [--damaged N] [--accounts N] \
-                     [--seconds T] [--events]";
+                     [--boxes N] [--seconds T] [--events]";
 
 #[derive(Default)]
 struct Options {
@@ -30,6 +32,7 @@ struct Options {
     trips: Option<u64>,
     damaged: Option<u64>,
     accounts: Option<u64>,
+    boxes: Option<u64>,
     seconds: Option<u64>,
     /// Whether all events are shown.
     events: bool,
@@ -44,6 +47,7 @@ fn options() -> Option<Options> {
             "--trips" => &mut options.trips,
             "--damaged" => &mut options.damaged,
             "--accounts" => &mut options.accounts,
+            "--boxes" => &mut options.boxes,
             "--seconds" => &mut options.seconds,
             "--events" => {
                 options.events = true;
@@ -56,13 +60,14 @@ fn options() -> Option<Options> {
     Some(options)
 }
 
-/// How many seeds there are for trips, for files and for accounts, from the
-/// first one on, and for how long.
+/// How many seeds there are for trips, for files, for accounts and for boxes,
+/// from the first one on, and for how long.
 struct Goal {
     seed: u64,
     trips: u64,
     files: u64,
     accounts: u64,
+    boxes: u64,
     time: Option<Duration>,
 }
 
@@ -80,12 +85,14 @@ impl Goal {
             trips: goal(options.trips, TRIPS),
             files: goal(options.damaged, FILES),
             accounts: goal(options.accounts, ACCOUNTS).div_ceil(ACCOUNTS_OF_A_SEED),
+            boxes: goal(options.boxes, BOXES),
             time: options.seconds.map(Duration::from_secs),
         }
     }
 
     fn seeds(&self) -> u64 {
-        self.trips.max(self.files).max(self.accounts)
+        let most = self.trips.max(self.files).max(self.accounts);
+        most.max(self.boxes)
     }
 }
 
@@ -149,14 +156,16 @@ fn counts(differ: &Differ) -> String {
         trips,
         files,
         accounts,
+        boxes,
+        any_boxes,
         writes,
         calls,
         days,
         ..
     } = differ;
     format!(
-        "{trips} trips, {files} files, {accounts} accounts, {calls} calls one by one, \
-         {writes} writes, {days} days"
+        "{trips} trips, {files} files, {accounts} accounts, {boxes} lists on boxes, \
+         {any_boxes} boxes, {calls} calls one by one, {writes} writes, {days} days"
     )
 }
 
@@ -177,8 +186,8 @@ struct Shared<'a> {
     over: AtomicBool,
 }
 
-/// The days; then a trip, a file, a write and accounts from each seed, shared
-/// out among the processors. Answers all that was done, and the mismatch of the
+/// The days; then a trip, a file, a write, accounts and boxes from each seed,
+/// shared out among the processors. Answers all that was done, and the mismatch of the
 /// first seed that has one.
 fn run(other: Side, goal: &Goal) -> (Differ, Option<Found>) {
     let mut all = Differ::new(other);
@@ -270,6 +279,9 @@ fn one_seed(
     if done < goal.accounts {
         differ.accounts(seed).map_err(|found| ("account", found))?;
     }
+    if done < goal.boxes {
+        differ.boxes(seed).map_err(|found| ("box", found))?;
+    }
     Ok(())
 }
 
@@ -289,6 +301,9 @@ fn report(found: &Found) {
     if !mismatch.account.is_empty() {
         println!("account, all other numbers 0: {}", some.join(", "));
     }
+    for (place, card) in mismatch.cards.iter().enumerate() {
+        println!("card {place}: {card:?}");
+    }
     if mismatch.file.is_empty() {
         return;
     }
@@ -303,7 +318,7 @@ fn print_times(differ: &Differ, took: Duration) {
     let times = &differ.times;
     println!(
         "{:.1?}: generation {:.1?}, trips {:.1?}, pairs {:.1?}, files {:.1?}, writes {:.1?}, \
-         accounts {:.1?}; at most {} calls in a list",
+         accounts {:.1?}, boxes {:.1?}; at most {} calls in a list",
         took,
         times.generation,
         times.trips,
@@ -311,6 +326,7 @@ fn print_times(differ: &Differ, took: Duration) {
         times.files,
         times.writes,
         times.accounts,
+        times.boxes,
         differ.longest
     );
 }

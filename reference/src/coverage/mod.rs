@@ -2,10 +2,13 @@
 //! They are taken from what a side returned and answered and from the numbers
 //! of its account, and never from what goes on inside a meter.
 
+pub mod boxes;
 pub mod calls;
+pub mod cards;
 pub mod causes;
 pub mod days;
 pub mod files;
+pub mod openings;
 pub mod plans;
 pub mod returns;
 pub mod seen;
@@ -34,7 +37,9 @@ pub fn list_events() -> Vec<&'static str> {
         .chain(uses::OF_LISTS.iter().copied())
         .chain(days::EVENTS.iter().copied())
         .chain(files::OF_READING.iter().copied())
-        .chain(plans::EVENTS.iter().copied());
+        .chain(plans::EVENTS.iter().copied())
+        .chain(boxes::OF_LISTS.iter().copied())
+        .chain(openings::OF_LISTS.iter().copied());
     let of_lists = groups.flatten().copied();
     of_lists.chain(returns::of_lists()).collect()
 }
@@ -44,6 +49,8 @@ pub fn events() -> Vec<&'static str> {
     let groups = calls::OF_ARGUMENTS.iter().chain(uses::OF_ACCOUNTS);
     let groups = groups.chain(plans::OF_OPENING);
     let groups = groups.chain(files::OF_FUNCTIONS).chain(writes::EVENTS);
+    let groups = groups.chain(boxes::OF_BOXES).chain(cards::EVENTS);
+    let groups = groups.chain(openings::OF_BOXES);
     let more = groups.flat_map(|group| group.iter()).copied();
     let mut all = list_events();
     all.extend(more);
@@ -60,6 +67,8 @@ pub struct TripEvents {
     seen: Vec<&'static str>,
     /// What the calls of a list so far leave to be known.
     past: calls::Past,
+    /// The same of a list on a box.
+    box_past: boxes::Past,
 }
 
 /// How many trips and so on reached each event.

@@ -1,6 +1,7 @@
 //! What each function can return, by number. Rules order-3, order-4, library-3.
 
 use super::TripEvents;
+use crate::family::interface::BoxStep;
 use crate::sides::{Step, ACCEPTED, BAD_ARGUMENT, END};
 
 /// The functions of the interface.
@@ -20,6 +21,12 @@ pub enum Function {
     Write,
     Call,
     Caps,
+    BoxOpen,
+    BoxRegister,
+    BoxUse,
+    BoxTopUp,
+    BoxNextDay,
+    BoxAfford,
 }
 
 type Return = (u64, &'static str);
@@ -59,9 +66,39 @@ const WRITE: &[Return] = returns!(
 const CALL: &[Return] = returns!("call"; END "end"; BAD_ARGUMENT "bad argument");
 const CAPS: &[Return] = returns!("caps"; BAD_ARGUMENT "bad argument");
 
-const ALL: [&[Return]; 14] = [
-    OPEN, REGISTER, USE, TOP_UP, NEXT_DAY, AFFORD, IS_SOUND, RUN, STATEMENT, READ, FIND, WRITE,
-    CALL, CAPS,
+/// family-11 to family-14: of a box.
+const BOX_OPEN: &[Return] = returns!(
+    "box open", 0, 1, 17, 18, 2, 19, 20; BAD_ARGUMENT "bad argument"
+);
+const BOX_REGISTER: &[Return] = returns!("box register", 0, 19; BAD_ARGUMENT "bad argument");
+const BOX_USE: &[Return] = returns!(
+    "box use", 0, 19, 3, 4, 5, 20, 6; BAD_ARGUMENT "bad argument"
+);
+const BOX_TOP_UP: &[Return] = returns!("box top-up", 0, 19, 7, 8);
+const BOX_NEXT_DAY: &[Return] = returns!("box next day", 0, 19, 9);
+const BOX_AFFORD: &[Return] = returns!("box afford", 0, 19, 3; BAD_ARGUMENT "bad argument");
+
+const ALL: [&[Return]; 20] = [
+    OPEN,
+    REGISTER,
+    USE,
+    TOP_UP,
+    NEXT_DAY,
+    AFFORD,
+    IS_SOUND,
+    RUN,
+    STATEMENT,
+    READ,
+    FIND,
+    WRITE,
+    CALL,
+    CAPS,
+    BOX_OPEN,
+    BOX_REGISTER,
+    BOX_USE,
+    BOX_TOP_UP,
+    BOX_NEXT_DAY,
+    BOX_AFFORD,
 ];
 
 /// What every function can return.
@@ -73,7 +110,8 @@ pub fn all() -> impl Iterator<Item = &'static str> {
 /// argument that is none.
 pub fn of_lists() -> impl Iterator<Item = &'static str> {
     let some = [REGISTER, USE, TOP_UP, NEXT_DAY, AFFORD, READ, FIND, WRITE];
-    let returns = some.into_iter().flatten();
+    let boxes = [BOX_REGISTER, BOX_USE, BOX_NEXT_DAY, BOX_AFFORD];
+    let returns = some.into_iter().chain(boxes).flatten();
     let usual = returns.filter(|(number, _)| *number != 0 && *number != BAD_ARGUMENT);
     usual.map(|(_, event)| *event)
 }
@@ -88,6 +126,18 @@ impl Function {
             Step::NextDay => Function::NextDay,
             Step::Afford(_) => Function::Afford,
         }
+    }
+
+    /// The function of a call on a box: each call is told apart. None where its
+    /// number is unknown.
+    pub fn of_box(step: BoxStep) -> Option<Function> {
+        Some(match step.step()? {
+            Step::Register(_) => Function::BoxRegister,
+            Step::Use(..) => Function::BoxUse,
+            Step::TopUp(_) => Function::BoxTopUp,
+            Step::NextDay => Function::BoxNextDay,
+            Step::Afford(_) => Function::BoxAfford,
+        })
     }
 }
 

@@ -63,6 +63,10 @@ impl Seen<'_> {
         self.form() == 0
     }
 
+    pub fn data_price(self) -> u64 {
+        self.get(at::PLAN + 2)
+    }
+
     pub fn minute_price(self) -> u64 {
         self.get(at::PLAN + 3)
     }

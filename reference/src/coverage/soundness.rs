@@ -10,7 +10,8 @@ use crate::sides::ACCEPTED;
 use crate::terms::GB;
 
 /// Conditions with their names: at most one event each for a sound account at
-/// the edge, and for one that is past it by one and keeps all others.
+/// the edge, for one that is past it by one and keeps all others, and for a box
+/// with such an account (family-11).
 macro_rules! conditions {
     ($($condition:ident $name:literal),* $(,)?) => {
         /// Each says that some amount is at most another.
@@ -25,6 +26,7 @@ macro_rules! conditions {
 
         const AT_THE_EDGE: &[&str] = &[$(concat!("sound at the edge: ", $name)),*];
         const BY_ONE: &[&str] = &[$(concat!("not sound by one alone: ", $name)),*];
+        const BOX_BY_ONE: &[&str] = &[$(concat!("box 0 by one alone: ", $name)),*];
     };
 }
 
@@ -141,7 +143,7 @@ const COUNTS: &[[&str; 3]] =
 
 /// What accounts of any numbers come to.
 pub fn events() -> impl Iterator<Item = &'static str> {
-    let conditions = AT_THE_EDGE.iter().chain(BY_ONE);
+    let conditions = AT_THE_EDGE.iter().chain(BY_ONE).chain(BOX_BY_ONE);
     let all = conditions.chain(COUNTS.as_flattened()).chain(OTHERS);
     all.copied()
 }
@@ -367,6 +369,15 @@ impl TripEvents {
             self.hit(BY_ONE[condition as usize], true);
         }
         Ok(())
+    }
+
+    /// family-11: a box with cards that are at no fault, and an account that
+    /// breaks these conditions.
+    pub(super) fn account_alone(&mut self, broken: &[(Condition, i128)]) {
+        self.hit("box 0 by the account alone", true);
+        if let [(condition, 1)] = broken[..] {
+            self.hit(BOX_BY_ONE[condition as usize], true);
+        }
     }
 
     /// library-5: what a function returned of another count of numbers.

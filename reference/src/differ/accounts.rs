@@ -44,9 +44,7 @@ impl Differ {
             self.times.accounts += begun.elapsed();
             tried.map_err(|what| Mismatch::of_account(what, &*account))?;
             self.accounts += 1;
-            for (coverage, events) in self.of_accounts.iter_mut().zip(&events) {
-                coverage.add(events);
-            }
+            self.add_of_accounts(&events);
         }
         Ok(())
     }
@@ -223,7 +221,7 @@ impl Differ {
 }
 
 /// A place of the layout: the log has as many turns as all others together.
-fn any_place(rng: &mut Rng) -> usize {
+pub(super) fn any_place(rng: &mut Rng) -> usize {
     let (first, end) = rng.pick(&[(at::LOG, at::PLAN), (at::PLAN, ACCOUNT_NUMBERS)]);
     rng.between(first as u64, end as u64 - 1) as usize
 }
@@ -250,7 +248,7 @@ fn past_the_log(rng: &mut Rng, account: &mut Numbers) {
 
 /// Units of a use: small ones, both sides of each limit that there is, and
 /// numbers that no record can have.
-fn some_units(rng: &mut Rng, account: &Numbers, kind: u64) -> u64 {
+pub(super) fn some_units(rng: &mut Rng, account: &Numbers, kind: u64) -> u64 {
     let seen = Seen(rest(account));
     let kind = Kind::ALL[kind as usize];
     let near = |rng: &mut Rng, left: u64| left.wrapping_add(rng.below(3)).wrapping_sub(1);
@@ -272,7 +270,7 @@ fn some_units(rng: &mut Rng, account: &Numbers, kind: u64) -> u64 {
 }
 
 /// Points of a top-up, likewise.
-fn some_points(rng: &mut Rng, account: &Numbers) -> u64 {
+pub(super) fn some_points(rng: &mut Rng, account: &Numbers) -> u64 {
     let left = 1_000_000_000u64.wrapping_sub(account[at::PAID]);
     match rng.below(6) {
         0 => rng.pick(&[0, 1]),

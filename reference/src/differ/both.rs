@@ -3,6 +3,7 @@
 use super::Differ;
 use crate::check::Failure;
 use crate::coverage::returns::Function;
+use crate::family::Card;
 use crate::numbers::{Numbers, ACCOUNT_NUMBERS};
 use crate::sides::{Side, ACCEPTED, REFERENCE};
 
@@ -134,6 +135,69 @@ impl Lent {
     }
 }
 
+/// Holds the cards of two boxes against each other.
+fn same_cards(ours: &[Card], theirs: &[Card]) -> Result<(), Failure> {
+    let differs = |at: &usize| ours[*at] != theirs[*at];
+    match (0..ours.len()).find(differs) {
+        Some(at) => Err(format!("card {at} is {:?}, not {:?}", theirs[at], ours[at])),
+        None => Ok(()),
+    }
+}
+
+/// The memory of an account and of cards, with others before and behind them
+/// that must stay.
+#[derive(Clone, Debug)]
+pub struct LentBox {
+    account: Lent,
+    cards: Vec<Card>,
+}
+
+const GUARD_CARD: Card = Card {
+    lifetime: [GUARD; 4],
+    monthly: GUARD,
+    allowance: GUARD,
+};
+
+impl LentBox {
+    pub fn new(account: &Numbers, cards: &[Card]) -> LentBox {
+        LentBox {
+            account: Lent::new(account),
+            cards: [&[GUARD_CARD], cards, &[GUARD_CARD]].concat(),
+        }
+    }
+
+    pub fn numbers(&self) -> &Numbers {
+        self.account.numbers()
+    }
+
+    pub fn cards(&self) -> &[Card] {
+        &self.cards[1..self.cards.len() - 1]
+    }
+
+    pub fn both_mut(&mut self) -> (&mut [u64], &mut [Card]) {
+        self.some_mut(ACCOUNT_NUMBERS)
+    }
+
+    /// The account's memory as one of another count, and the cards.
+    fn some_mut(&mut self, count: usize) -> (&mut [u64], &mut [Card]) {
+        let behind = self.cards.len() - 1;
+        let cards = &mut self.cards[1..behind];
+        (self.account.some_mut(count), cards)
+    }
+
+    /// Account and cards must be as they should, and nothing around them
+    /// changed.
+    pub fn holds(&self, account: &Numbers, cards: &[Card]) -> Result<(), Failure> {
+        self.account.holds(account)?;
+        same_cards(cards, self.cards())?;
+        let around = [self.cards.first(), self.cards.last()];
+        if around != [Some(&GUARD_CARD); 2] {
+            return Err("a number beside the cards was changed".to_string());
+        }
+        Ok(())
+    }
+}
+
 impl Differ {
     /// A function without an account, on both sides: an answer has so many
     /// numbers, and so many are lent for it.
@@ -195,6 +259,59 @@ impl Differ {
         let counted = |what| format!("with an account of {count} numbers: {what}");
         agree(0, &ours, &their_given).map_err(counted)?;
         theirs.holds(account).map_err(counted)?;
+        Ok([ours, their_given])
+    }
+
+    /// A function that is lent an account and cards, on both sides, each on
+    /// memory of its own. Answers what both gave and the boxes after it.
+    pub(super) fn ask_box(
+        &mut self,
+        account: &Numbers,
+        cards: &[Card],
+        numbers: usize,
+        room: usize,
+        call: impl Fn(&Side, &mut [u64], &mut [Card], &mut [u64]) -> u64,
+    ) -> Result<([Given; 2], [LentBox; 2]), Failure> {
+        let mut lent = [LentBox::new(account, cards), LentBox::new(account, cards)];
+        let made = |side: &Side, lent: &mut LentBox| {
+            Given::of(room, |answer| {
+                let (account, cards) = lent.both_mut();
+                call(side, account, cards, answer)
+            })
+        };
+        let [ours, theirs] = &mut lent;
+        let our_given = made(&REFERENCE, ours);
+        let their_given = made(&self.other, theirs);
+        self.calls += 1;
+        agree(numbers, &our_given, &their_given)?;
+        theirs.holds(ours.numbers(), ours.cards())?;
+        if their_given.returned != ACCEPTED {
+            theirs.holds(account, cards)?;
+        }
+        Ok(([our_given, their_given], lent))
+    }
+
+    /// The same with another count of the account's numbers: 0 to four more.
+    pub(super) fn ask_box_counted(
+        &mut self,
+        account: &Numbers,
+        count: usize,
+        cards: &[Card],
+        call: impl Fn(&Side, &mut [u64], &mut [Card], &mut [u64]) -> u64,
+    ) -> Result<[Given; 2], Failure> {
+        let mut lent = [LentBox::new(account, cards), LentBox::new(account, cards)];
+        let made = |side: &Side, lent: &mut LentBox| {
+            Given::of(ROOM, |answer| {
+                let (account, cards) = lent.some_mut(count);
+                call(side, account, cards, answer)
+            })
+        };
+        let [ours, theirs] = &mut lent;
+        let (ours, their_given) = (made(&REFERENCE, ours), made(&self.other, theirs));
+        self.calls += 1;
+        let counted = |what| format!("box, with an account of {count} numbers: {what}");
+        agree(0, &ours, &their_given).map_err(counted)?;
+        theirs.holds(account, cards).map_err(counted)?;
         Ok([ours, their_given])
     }
 }

@@ -1,18 +1,22 @@
 //! The comparison of another meter with this one, one call at a time: trips,
-//! files sound and damaged, what there is to write, and accounts of any
-//! numbers. What both return and answer is compared, and all the memory that
-//! they were lent.
+//! files sound and damaged, what there is to write, accounts of any numbers,
+//! and family boxes. What both return and answer is compared, and all the
+//! memory that they were lent.
 
 mod accounts;
+mod any_boxes;
 mod both;
+mod boxes;
 mod calls;
 mod files;
 mod writes;
 
+pub use any_boxes::BOXES_OF_A_SEED;
 pub use writes::LAST_DAY;
 
 use crate::check::{check_pairs, Failure};
 use crate::coverage::{list_events, Coverage, TripEvents};
+use crate::family::Card;
 use crate::generate::{self, Case};
 use crate::numbers::{Numbers, ACCOUNT_NUMBERS};
 use crate::rng::Rng;
@@ -34,6 +38,8 @@ pub struct Mismatch {
     pub file: Vec<u8>,
     /// The numbers of the account before the call, if they are no trip's.
     pub account: Vec<u64>,
+    /// The cards before the call, of a box.
+    pub cards: Vec<Card>,
 }
 
 impl Mismatch {
@@ -57,6 +63,13 @@ impl Mismatch {
             ..*Mismatch::new(what)
         })
     }
+
+    fn of_box(what: String, account: &[u64], cards: &[Card]) -> Box<Mismatch> {
+        Box::new(Mismatch {
+            cards: cards.to_vec(),
+            ..*Mismatch::of_account(what, account)
+        })
+    }
 }
 
 /// Where the time went.
@@ -68,6 +81,7 @@ pub struct Times {
     pub files: Duration,
     pub writes: Duration,
     pub accounts: Duration,
+    pub boxes: Duration,
 }
 
 impl Times {
@@ -78,6 +92,7 @@ impl Times {
         self.files += other.files;
         self.writes += other.writes;
         self.accounts += other.accounts;
+        self.boxes += other.boxes;
     }
 }
 
@@ -98,6 +113,9 @@ pub struct Differ {
     pub writes: u64,
     /// Accounts of any numbers.
     pub accounts: u64,
+    /// Lists on boxes, and boxes of any numbers.
+    pub boxes: u64,
+    pub any_boxes: u64,
     /// Days whose caps and rows read were compared.
     pub days: u64,
     /// Single calls on accounts, each with all of its account compared.
@@ -121,6 +139,8 @@ impl Differ {
             files: 0,
             writes: 0,
             accounts: 0,
+            boxes: 0,
+            any_boxes: 0,
             days: 0,
             calls: 0,
             longest: 0,
@@ -151,6 +171,13 @@ impl Differ {
         }
     }
 
+    /// Adds what came of accounts or boxes that no list led to.
+    fn add_of_accounts(&mut self, events: &Both) {
+        for (coverage, events) in self.of_accounts.iter_mut().zip(events) {
+            coverage.add(events);
+        }
+    }
+
     /// Adds what another run has done.
     pub fn merge(&mut self, other: &Differ) {
         for (coverage, more) in self.coverage.iter_mut().zip(&other.coverage) {
@@ -163,6 +190,8 @@ impl Differ {
         self.files += other.files;
         self.writes += other.writes;
         self.accounts += other.accounts;
+        self.boxes += other.boxes;
+        self.any_boxes += other.any_boxes;
         self.days += other.days;
         self.calls += other.calls;
         self.longest = self.longest.max(other.longest);

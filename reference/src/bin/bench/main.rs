@@ -90,7 +90,7 @@ fn picture(other: Side, path: &str) -> ExitCode {
 fn one(side: Side, key: &str, count: usize, start: u32) -> bool {
     let of_file = |work: fn(Vec<u8>) -> Work| {
         let work = work(file(start, &most_calls()));
-        (Task::new(side, start, &[], work), count)
+        (Task::new(side, start, work), count)
     };
     let (mut task, times) = if key == STATEMENT[0] {
         of_file(Work::Statement)

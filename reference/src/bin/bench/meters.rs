@@ -1,8 +1,11 @@
 //! Both meters, each with an account as it keeps it itself: the proved one as
 //! numbers in memory, this crate's as a value of its own type. Neither is
-//! turned into the other where something is timed.
+//! turned into the other where something is timed. With cards it is a family
+//! box; both keep the cards alike.
 
 use reference::caps;
+use reference::family::interface::BoxStep;
+use reference::family::{self, Card, CardCall};
 use reference::meter::{Account, Answer};
 use reference::numbers::{numbers, Numbers, ACCOUNT_NUMBERS};
 use reference::plan::Plan;
@@ -19,7 +22,10 @@ pub type Room = [u64; STATEMENT_NUMBERS];
 pub enum Act {
     /// A call on the account.
     Call(Call),
-    /// The account opened anew, under the plan that it has.
+    /// A call on the box.
+    Card(CardCall),
+    /// The account opened anew, under the plan that it has, or the box with its
+    /// cards.
     Open,
     IsSound,
     /// The caps of a day.
@@ -36,6 +42,8 @@ pub trait Meter: Clone {
     fn run(&mut self, file: &[u8], answer: &mut Room) -> u64;
     /// The numbers of the account.
     fn numbers(&self) -> Box<Numbers>;
+    /// The cards of a box.
+    fn cards(&self) -> &[Card];
 }
 
 #[derive(Clone)]
@@ -43,14 +51,17 @@ pub struct Proved {
     side: Side,
     plan: [u64; PLAN_NUMBERS],
     account: Box<Numbers>,
+    cards: Vec<Card>,
 }
 
 impl Proved {
-    pub fn opened(side: Side, plan: &Plan) -> Proved {
+    /// Opened with these cards, or without any as an account alone.
+    pub fn opened(side: Side, plan: &Plan, cards: &[Card]) -> Proved {
         let mut meter = Proved {
             side,
             plan: plan.to_words().map(u64::from),
             account: Box::new([0; ACCOUNT_NUMBERS]),
+            cards: cards.to_vec(),
         };
         let number = meter.act(Act::Open, &mut Room::default());
         assert_eq!(number, ACCEPTED, "the plan is accepted");
@@ -67,7 +78,12 @@ impl Meter for Proved {
             Act::Call(Call::TopUp(points)) => (side.top_up)(account, points),
             Act::Call(Call::NextDay) => (side.next_day)(account),
             Act::Call(Call::Afford(kind)) => (side.afford)(account, kind as u64, answer),
-            Act::Open => (side.open)(account, &self.plan),
+            Act::Card(made) => {
+                let step = BoxStep::from(made);
+                (side.box_call)(account, &mut self.cards, step, answer)
+            }
+            Act::Open if self.cards.is_empty() => (side.open)(account, &self.plan),
+            Act::Open => (side.box_open)(account, &mut self.cards, &self.plan),
             Act::IsSound => (side.is_sound)(account),
             Act::Caps(day) => (side.caps)(day, answer),
         }
@@ -84,6 +100,10 @@ impl Meter for Proved {
     fn numbers(&self) -> Box<Numbers> {
         self.account.clone()
     }
+
+    fn cards(&self) -> &[Card] {
+        &self.cards
+    }
 }
 
 /// This crate's meter.
@@ -91,18 +111,24 @@ impl Meter for Proved {
 pub struct Reference {
     plan: Plan,
     account: Account,
+    cards: Vec<Card>,
 }
 
 impl Reference {
-    pub fn opened(plan: &Plan) -> Reference {
+    pub fn opened(plan: &Plan, cards: &[Card]) -> Reference {
         Reference {
             plan: *plan,
             account: Account::open(*plan).expect("the plan is accepted"),
+            cards: cards.to_vec(),
         }
     }
 
     fn open_anew(&mut self) -> Result<Answer, u32> {
-        self.account = Account::open(self.plan)?;
+        self.account = if self.cards.is_empty() {
+            Account::open(self.plan)?
+        } else {
+            family::open(self.plan, &mut self.cards)?
+        };
         Ok(Answer::Done)
     }
 
@@ -126,6 +152,7 @@ impl Meter for Reference {
     fn act(&mut self, act: Act, answer: &mut Room) -> u64 {
         let told = match act {
             Act::Call(call) => self.account.apply(call),
+            Act::Card(made) => family::apply(&mut self.account, &mut self.cards, made),
             Act::Open => self.open_anew(),
             Act::IsSound => self.is_sound(),
             Act::Caps(day) => {
@@ -158,6 +185,10 @@ impl Meter for Reference {
 
     fn numbers(&self) -> Box<Numbers> {
         Box::new(numbers(&self.account))
+    }
+
+    fn cards(&self) -> &[Card] {
+        &self.cards
     }
 }
 

@@ -163,7 +163,7 @@ fn statements(side: Side) -> Part {
 
 /// What is done with a file's calls, on an account as it was opened.
 fn line(side: Side, name: String, work: Work, divisor: usize) -> Line {
-    let task = Task::new(side, EARLY, &[], work);
+    let task = Task::new(side, EARLY, work);
     assert_eq!(task.agreed().refused, 0, "refused calls");
     Line {
         name,

@@ -2,6 +2,7 @@
 //! what a meter is given to do.
 
 use crate::meters::{Act, Meter, Proved, Reference, Room};
+use reference::family::{Card, CardCall, MAX_ALLOWANCE, MAX_CARDS};
 use reference::numbers::at;
 use reference::plan::{Plan, PREPAID};
 use reference::sides::{Side, ACCEPTED};
@@ -16,6 +17,8 @@ pub struct Row {
     pub name: &'static str,
     days: Days,
     done: Done,
+    /// How many cards the box has; none is an account alone.
+    cards: usize,
 }
 
 /// The days before the calls, of which the last 123 are logged (day-1).
@@ -54,10 +57,22 @@ const fn each(key: &'static str, name: &'static str, acts: &'static [Act]) -> Ro
         name,
         days: Days::InTurn,
         done: Done::Each(acts),
+        cards: 0,
     }
 }
 
-pub static ROWS: [Row; 11] = [
+/// On a box of 16 cards, which make the calls in turn.
+const fn boxed(key: &'static str, name: &'static str, acts: &'static [Act]) -> Row {
+    Row {
+        key,
+        name,
+        days: Days::InTurn,
+        done: Done::Each(acts),
+        cards: MAX_CARDS,
+    }
+}
+
+pub static ROWS: [Row; 17] = [
     each(
         "data",
         "use of data",
@@ -85,6 +100,7 @@ pub static ROWS: [Row; 11] = [
         name: "a day in the zone, zone days prevailing",
         days: Days::Zone,
         done: Done::Group(&ZONE_DAY),
+        cards: 0,
     },
     each(
         "afford",
@@ -98,7 +114,34 @@ pub static ROWS: [Row; 11] = [
         name: "caps of a day",
         days: Days::InTurn,
         done: Done::Caps,
+        cards: 0,
     },
+    boxed(
+        "boxdata",
+        "16 cards: use of data",
+        &[Act::Call(Call::Use(Kind::Data, 1))],
+    ),
+    boxed(
+        "boxregister",
+        "16 cards: register, home and zone in turn",
+        &[Act::Call(Call::Register(Place::Home)), Act::Call(IN_ZONE)],
+    ),
+    boxed(
+        "boxtopup",
+        "16 cards: top-up in the zone",
+        &[Act::Call(Call::TopUp(1))],
+    ),
+    boxed(
+        "boxnextday",
+        "16 cards: next day",
+        &[Act::Call(Call::NextDay)],
+    ),
+    boxed(
+        "boxafford",
+        "16 cards: Afford of data",
+        &[Act::Call(Call::Afford(Kind::Data))],
+    ),
+    boxed("boxopen", "16 cards: open", &[Act::Open]),
 ];
 
 /// The row whose calls are all refused.
@@ -144,8 +187,10 @@ impl Row {
             }
             Done::Caps => vec![Act::Caps(u64::from(start)); count],
         };
-        let before = self.days.calls(days);
-        Task::new(side, start, &before, Work::Acts(acts))
+        let before = self.days.calls(days).into_iter().map(Act::Call);
+        let before = by_cards(before.collect(), self.cards);
+        let work = Work::Acts(by_cards(acts, self.cards));
+        Task::with_cards(side, start, self.cards, &before, work)
     }
 
     /// day-1: day changes that fill the log; service-7, service-8: in the zone
@@ -180,6 +225,19 @@ impl Row {
     pub fn surcharges(&self) -> bool {
         matches!(self.days, Days::Zone)
     }
+}
+
+/// The calls, made by so many cards in turn; without cards, on the account
+/// alone.
+fn by_cards(acts: Vec<Act>, cards: usize) -> Vec<Act> {
+    let by_card = |(index, act)| match act {
+        Act::Call(call) if cards > 0 => Act::Card(CardCall {
+            card: index % cards,
+            call,
+        }),
+        _ => act,
+    };
+    acts.into_iter().enumerate().map(by_card).collect()
 }
 
 impl Days {
@@ -294,20 +352,25 @@ impl Work {
 }
 
 impl Task {
-    /// A work on accounts that were opened on a day and then had these calls,
-    /// all accepted.
-    pub fn new(side: Side, start: u32, before: &[Call], work: Work) -> Task {
+    /// A work on accounts that were opened on a day.
+    pub fn new(side: Side, start: u32, work: Work) -> Task {
+        Task::with_cards(side, start, 0, &[], work)
+    }
+
+    /// A work on accounts, or on boxes of so many cards, that were opened on a
+    /// day and then had these calls, all accepted.
+    fn with_cards(side: Side, start: u32, cards: usize, before: &[Act], work: Work) -> Task {
         let plan = plan_from(start);
-        let mut proved = Proved::opened(side, &plan);
-        let mut reference = Reference::opened(&plan);
+        let cards = vec![Card::new(MAX_ALLOWANCE); cards];
+        let mut proved = Proved::opened(side, &plan, &cards);
+        let mut reference = Reference::opened(&plan, &cards);
         let mut room = Room::default();
-        for call in before {
-            let act = Act::Call(*call);
+        for act in before {
             let numbers = [
-                proved.act(act, &mut room),
-                reference.act(act, &mut Room::default()),
+                proved.act(*act, &mut room),
+                reference.act(*act, &mut Room::default()),
             ];
-            assert_eq!(numbers, [ACCEPTED; 2], "{call:?} is accepted");
+            assert_eq!(numbers, [ACCEPTED; 2], "{act:?} is accepted");
         }
         Task {
             work,
@@ -317,7 +380,7 @@ impl Task {
     }
 
     /// What both meters agree on, which is every number and every answer of the
-    /// work, and the account before it and after it.
+    /// work, and account and cards before it and after it.
     pub fn agreed(&self) -> Agreed {
         let (mut proved, mut reference) = (self.proved.clone(), self.reference.clone());
         let before = proved.numbers();
@@ -330,6 +393,7 @@ impl Task {
             after == reference.numbers(),
             "the accounts agree after the work"
         );
+        assert_eq!(proved.cards(), reference.cards(), "the cards agree");
         // An account that is opened anew has fewer.
         let surcharges = after[at::SURCHARGES].saturating_sub(before[at::SURCHARGES]);
         Agreed {

@@ -9,7 +9,7 @@ use Rattle.account.specs.Calls.{step}
 use Rattle.account.specs.Answers.{applied, account-of, applied-state}
 use Rattle.numbers.specs.Numbers.{account-from, is-account}
 use Rattle.numbers.proofs.Back.{account-length}
-use Rattle.meter.proofs.Held.{prefix-length, joined-length, account-again, no-account, settles-of, new-length, done-of}
+use Rattle.meter.proofs.Held.{prefix-length, joined-length, account-again, no-account, settles-of, new-length, call-handed, done-of}
 use borrow.Author.Needs.{needs}
 use Rattle.meter.proofs.calls.call_on.Statement.{statement}
 use Rattle.meter.proofs.calls.call_on.Tie as tie
@@ -32,6 +32,10 @@ shifted : (c : tie.After-call-with) → c .call-with .last .1 .0 ≡ step (accou
 shifted c = let a = c .before .before .before .before .before .before .before .before .args in
     c .call-with .ensures .1 ∙ ap (λ (x : Account). step x (a .c) .log) (same (c .before .before))
 
+logged : (c : tie.After-call-with) → c .call-with .last .1 .0 ≡ applied (account-from (c .before .before .before .before .before .before .before .before .args .account .now)) (c .before .before .before .before .before .before .before .before .args .c) .account .log
+unfolding applied
+logged c = shifted c
+
 returns : tie.Need-returns
 returns c = let a = c .before .before .before .before .args in no-account (a .account .now) (a .c) (sym (c .before .held .ensures) ∙ not-true (c .before .held .result) (c .if1 .taken))
 
@@ -52,7 +56,7 @@ settle-requires c κs = let n = c .before .before .before in
     let a = c .before .before .before .before .before .before .before .before .before .before .before .args in
     let xs = a .account .now in
     let h = here (c .before .before .before .before .before .before .before) in
-    (joined-length (n .call-with .last .1 .0) xs (new-length xs (a .c) (n .call-with .last .1 .0) h (shifted n)) (account-length xs h), settles-of (n .call-with .result) (account-from xs) (a .c) (answers n))
+    (joined-length (n .call-with .last .1 .0) xs (new-length xs (applied (account-from xs) (a .c)) (n .call-with .last .1 .0) h (call-handed (account-from xs) (a .c)) (logged n)) (account-length xs h), settles-of (n .call-with .result) (account-from xs) (applied (account-from xs) (a .c)) (call-handed (account-from xs) (a .c)) (answers n))
 
 returns-2 : tie.Need-returns-2
 returns-2 c = let n = c .before .before .before .before .before .before in

@@ -8,7 +8,7 @@ use lib.Dec.{leb, eqb}
 use borrow.Author.Tests.{leb-true, eqb-true, lt-ltb, le-ltb}
 use Rattle.tariff.specs.Tests.{verdict-of}
 use Rattle.tariff.proofs.Tests.{not-true, not-false}
-use Rattle.sections.proofs.Verdicts.{and-three}
+use Rattle.tariff.proofs.Verdicts.{and-three}
 use Rattle.tripfile.specs.Bodies.{paired, calls-right}
 use Rattle.tripfile.specs.Writing.{file-size, counts-right, calls-reasons}
 use borrow.Author.Needs.{needs}

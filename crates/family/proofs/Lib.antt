@@ -1,0 +1,6 @@
+pub mod Accepts
+pub mod Affords
+pub mod Openings
+pub mod Returns
+pub mod Sums
+pub mod Ties
