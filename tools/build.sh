@@ -1,6 +1,6 @@
-# Used by ./statement, ./explain, ./library and ./test: the toolchain's version, one build at a time, and a build that
-# shows how far it is. `here` is the top of the repository, and `name` the command that builds. What is said of the work
-# goes to standard error.
+# Used by ./statement, ./explain, ./library, ./edits and ./test: the toolchain's version, one build at a time, a folder
+# for temporary files, and a build that shows how far it is. `here` is the top of the repository, and `name` the command
+# that builds. What is said of the work goes to standard error.
 
 logs=$here/logs
 
@@ -19,6 +19,17 @@ lock() { # NAME
     flock -n 9 && return
     echo "$1: waiting for another build or test of this repository to end" >&2
     flock 9
+}
+
+# A folder for temporary files, in memory where there is room: the checker makes and removes thousands of small files at
+# each check, which some file systems are slow at. Whoever calls this removes "$scratch" at the end.
+scratch_folder() {
+    free=$(df -Pk /dev/shm 2>/dev/null | awk 'NR == 2 { print $4 }')
+    if [ -n "${TMPDIR:-}" ] || [ "${free:-0}" -lt 4194304 ] || [ ! -w /dev/shm ]; then
+        scratch=$(mktemp -d)
+    else
+        scratch=$(mktemp -d /dev/shm/meter.XXXXXX)
+    fi && chmod 755 "$scratch" && export TMPDIR="$scratch"
 }
 
 # How many crates of the repository NAME needs, itself among them.

@@ -46,8 +46,7 @@ pub fn run(settings: &Run, crates: Vec<Crate>) -> Result<Outcome, String> {
         tried: 0,
         wrong: Vec::new(),
     });
-    let base = settings.root.join("target/edits");
-    let _ = fs::remove_dir_all(&base);
+    let base = std::env::temp_dir().join(format!("edits-{}", std::process::id()));
     thread::scope(|scope| {
         for number in 0..workers {
             let (board, dir) = (&board, base.join(number.to_string()));
