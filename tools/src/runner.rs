@@ -5,7 +5,8 @@ use crate::batch::{self, Batch};
 use crate::edit;
 use crate::folder;
 use crate::list::{Crate, Edit};
-use crate::verdict::{judge, own_refusal, Verdict};
+use crate::parts::Parts;
+use crate::verdict::{judge, Verdict};
 use std::fs;
 use std::io;
 use std::path::{Path, PathBuf};
@@ -129,9 +130,11 @@ fn note(board: &Mutex<Board>, line: String) {
 
 fn try_crate(settings: &Run, board: &Mutex<Board>, dir: &Path, c: &Crate) {
     let log = |name: &str| settings.logs.join(&c.name).join(format!("{name}.log"));
-    let (batches, mut single) = batch::plan(&dir.join("crates").join(&c.name), &c.name, &c.edits);
+    let parts = Parts::of(&dir.join("crates").join(&c.name), &c.name);
+    let all: Vec<&Edit> = c.edits.iter().collect();
+    let (batches, mut single) = batch::plan(&parts, &all);
     for b in &batches {
-        single.extend(try_batch(board, dir, c, b, &log));
+        single.extend(try_batch(board, dir, c, (&parts, b), &log));
     }
     for e in single {
         try_edit(board, dir, c, e, &log(&e.name));
@@ -157,17 +160,17 @@ fn as_it_is(board: &Mutex<Board>, dir: &Path, c: &Crate, log: &Path) {
     }
 }
 
-/// Tries edits of several functions in one check; what cannot be told from it is handed back.
+/// Tries several edits in one check; what cannot be told from it is handed back.
 fn try_batch<'a>(
     board: &Mutex<Board>,
     dir: &Path,
     c: &Crate,
-    b: &Batch<'a>,
+    (parts, b): (&Parts, &Batch<'a>),
     log: &dyn Fn(&str) -> PathBuf,
 ) -> Vec<&'a Edit> {
     let began = Instant::now();
-    let all: Vec<_> = b.iter().flat_map(|(e, _)| e.replacements.clone()).collect();
-    let alone: Vec<&Edit> = b.iter().map(|(e, _)| *e).collect();
+    let alone: Vec<&Edit> = b.iter().map(|t| t.edit).collect();
+    let all: Vec<_> = alone.iter().flat_map(|e| e.replacements.clone()).collect();
     let Ok(applied) = edit::apply_together(&dir.join("crates").join(&c.name), &all) else {
         return alone;
     };
@@ -184,8 +187,7 @@ fn try_batch<'a>(
     };
     let took = began.elapsed().as_secs_f64();
     let mut left = Vec::new();
-    for (e, path) in b {
-        let refused = own_refusal(status, &text, path);
+    for (e, refused) in alone.iter().zip(batch::told(parts, b, status, &text)) {
         match refused.filter(|_| keep(&log(&e.name), &text).is_ok()) {
             Some(m) => {
                 let others = b.len() - 1;

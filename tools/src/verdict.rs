@@ -43,28 +43,54 @@ pub fn judge(status: Option<i32>, output: &str) -> Verdict {
     }
 }
 
-/// Of an edit that was tried with others: the message of its own function, if that is what is not proved. Where
-/// it cannot be told, none: then the edit is tried alone.
-pub fn own_refusal(status: Option<i32>, output: &str, path: &str) -> Option<String> {
-    let not_proved = |l: &str| {
+/// Did the checker end with "not proved"?
+pub fn not_proved(status: Option<i32>, output: &str) -> bool {
+    let told = |l: &str| {
         l.strip_prefix("logic=")
             .is_some_and(|l| starts_word(l, "not-proved"))
     };
-    if status != Some(1) || !output.lines().any(not_proved) {
-        return None;
+    status == Some(1) && output.lines().any(told)
+}
+
+/// Where an error is: in a file, or in the proof of a function that has no file.
+#[derive(Debug, PartialEq, Eq)]
+pub enum Place {
+    Line(String, usize),
+    Function(String),
+}
+
+/// An error of its own, which does not only follow from another one.
+#[derive(Debug, PartialEq, Eq)]
+pub struct OwnError {
+    pub place: Place,
+    pub message: String,
+    /// Whether it is of a proof that no longer holds, and not of one that became unfit, or of the edited text.
+    pub shows: bool,
+}
+
+/// The errors of their own, in the order of the output.
+pub fn errors(output: &str) -> Vec<OwnError> {
+    messages(output).into_iter().filter_map(own_error).collect()
+}
+
+fn own_error(message: String) -> Option<OwnError> {
+    if let Some((path, said)) = message.strip_prefix("fn ").and_then(|m| m.split_once(": ")) {
+        let own = said.starts_with("no proof") && said.contains("does not close");
+        return own.then(|| OwnError {
+            place: Place::Function(path.to_string()),
+            message: said.to_string(),
+            shows: true,
+        });
     }
-    let said = output
-        .lines()
-        .find_map(|l| l.strip_prefix(&format!("fn {path}: ")))?;
-    if said.starts_with("no proof") && said.contains("does not close") {
-        return Some(said.to_string());
-    }
-    let inner = path.split_once("::")?.1.replace("::", "/");
-    let place = format!("proofs/{inner}/Proof.antt:");
-    let own = |m: &String| m.contains(&place) && m.contains(": error") && !m.contains(FOLLOWS);
-    let first = messages(output).into_iter().find(own)?;
-    let hollow = HOLLOW.iter().any(|text| first.contains(text));
-    (said == "not proved" && !hollow).then_some(first)
+    let (place, said) = message.split_once(": error")?;
+    let mut parts = place.splitn(3, ':');
+    let (file, line) = (parts.next()?, parts.next()?.parse().ok()?);
+    let hollow = HOLLOW.iter().any(|text| said.contains(text));
+    (!said.contains(FOLLOWS)).then(|| OwnError {
+        place: Place::Line(file.to_string(), line),
+        shows: file.starts_with("proofs/") && !hollow,
+        message: message.clone(),
+    })
 }
 
 fn starts_word(line: &str, word: &str) -> bool {
@@ -137,16 +163,26 @@ mod tests {
     }
 
     #[test]
-    fn only_its_own_function_tells_of_an_edit_among_others() {
-        let out = "c/proofs/f/Proof.antt:1:1: error: `returns`: x\nfn c::f: not proved\n\
-                   fn c::g: not proved; it calls `c::f`, which is not proved\nfn c::h: proved\n\
-                   fn c::i: no proof: `search` does not close `returns`\nfn c::j: not proved\nlogic=not-proved\n";
-        assert!(own_refusal(Some(1), out, "c::f").is_some());
-        assert!(own_refusal(Some(1), out, "c::i").is_some());
-        for path in ["c::g", "c::h", "c::j", "c::k"] {
-            assert!(own_refusal(Some(1), out, path).is_none(), "{path}");
-        }
-        assert!(own_refusal(Some(2), out, "c::f").is_none());
+    fn errors_with_their_places() {
+        let out = "proofs/f/Proof.antt:7:1: error: `returns`: x\n  more of it\n\
+                   proofs/G.antt:9:1: error: `g`: `returns` was not admitted (it has holes or\n\
+                   specs/S.antt:2:1: error: `s`: a type\nproofs/H.antt:3:1: error: `h`: x is not in scope\n\
+                   fn c::f: not proved\nfn c::i: no proof: `search` does not close `returns`\nlogic=not-proved\n";
+        let all = errors(out);
+        let places: Vec<(&Place, bool)> = all.iter().map(|e| (&e.place, e.shows)).collect();
+        let line = |f: &str, n| Place::Line(f.into(), n);
+        assert_eq!(
+            places,
+            [
+                (&line("proofs/f/Proof.antt", 7), true),
+                (&line("specs/S.antt", 2), false),
+                (&line("proofs/H.antt", 3), false),
+                (&Place::Function("c::i".into()), true),
+            ]
+        );
+        assert!(not_proved(Some(1), out));
+        assert!(!not_proved(Some(2), out));
+        assert!(!not_proved(Some(1), "logic=proved\n"));
     }
 
     #[test]
