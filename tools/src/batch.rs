@@ -18,20 +18,25 @@ pub struct Tried<'a> {
 
 pub type Batch<'a> = Vec<Tried<'a>>;
 
-const LARGEST: usize = 12;
+const LARGEST: usize = 16;
 
-/// Batches of two or more, and the edits that are tried one by one.
+/// Batches of two or more, and the edits that are tried one by one. Edits on which little rests come first, so that they
+/// are in batches of their own: one on which much rests has nearly all of the crate checked again.
 pub fn plan<'a>(parts: &Parts, edits: &[&'a Edit]) -> (Vec<Batch<'a>>, Vec<&'a Edit>) {
-    let (mut batches, mut single): (Vec<Batch>, Vec<&Edit>) = (Vec::new(), Vec::new());
     let sites = parts.sites();
+    let (mut all, mut single): (Vec<Tried>, Vec<&Edit>) = (Vec::new(), Vec::new());
     for e in edits {
-        let Some(tried) = tried(parts, &sites, e) else {
-            single.push(e);
-            continue;
-        };
-        match batches.iter_mut().find(|b| fits(b, &tried)) {
-            Some(b) => b.push(tried),
-            None => batches.push(vec![tried]),
+        match tried(parts, &sites, e) {
+            Some(t) => all.push(t),
+            None => single.push(e),
+        }
+    }
+    all.sort_by_key(|t| t.sites.len());
+    let mut batches: Vec<Batch> = Vec::new();
+    for t in all {
+        match batches.iter_mut().find(|b| fits(b, &t)) {
+            Some(b) => b.push(t),
+            None => batches.push(vec![t]),
         }
     }
     let (many, one): (Vec<Batch>, Vec<Batch>) = batches.into_iter().partition(|b| b.len() > 1);
