@@ -22,14 +22,18 @@ lock() { # NAME
 }
 
 # A folder for temporary files, in memory where there is room: the checker makes and removes thousands of small files at
-# each check, which some file systems are slow at. Whoever calls this removes "$scratch" at the end.
+# each check, which some file systems are slow at. Whoever calls this removes "$scratch" at the end; one that a process
+# left behind when it was killed is removed here.
 scratch_folder() {
+    for left in /dev/shm/meter.*; do
+        [ ! -d "$left" ] || kill -0 "${left##*.}" 2>/dev/null || rm -rf "$left"
+    done
     free=$(df -Pk /dev/shm 2>/dev/null | awk 'NR == 2 { print $4 }')
-    if [ -n "${TMPDIR:-}" ] || [ "${free:-0}" -lt 4194304 ] || [ ! -w /dev/shm ]; then
-        scratch=$(mktemp -d)
-    else
-        scratch=$(mktemp -d /dev/shm/meter.XXXXXX)
-    fi && chmod 755 "$scratch" && export TMPDIR="$scratch"
+    scratch=/dev/shm/meter.$$
+    if [ -n "${TMPDIR:-}" ] || [ "${free:-0}" -lt 4194304 ] || ! mkdir "$scratch" 2>/dev/null; then
+        scratch=$(mktemp -d) || return 1
+    fi
+    chmod 755 "$scratch" && export TMPDIR="$scratch" # rt runs programs in a folder below it as another user
 }
 
 # How many crates of the repository NAME needs, itself among them.
