@@ -43,7 +43,7 @@ const NO_PARTS: [&str; 6] = ["use ", "mod ", "pub mod ", "infix", "--", "ghost u
 /// nothing, as further lines of a definition, is called by its first word.
 pub fn parts(text: &str) -> Vec<Named> {
     let mut found: Vec<Named> = Vec::new();
-    let (mut at, mut open) = (0, false);
+    let (mut at, mut open, mut block) = (0, false, false);
     for line in text.split_inclusive('\n') {
         let margin = !line.starts_with([' ', '\n']);
         if margin && NO_PARTS.iter().any(|p| line.starts_with(p)) {
@@ -51,6 +51,7 @@ pub fn parts(text: &str) -> Vec<Named> {
         } else if margin && !open {
             found.push((at..at, BTreeSet::new()));
             open = true;
+            block = line.starts_with("module ") || line.contains("mutual");
         } else if line == "\n" {
             let rest = &text[at + 1..];
             open = open && rest.starts_with([' ', '\n']);
@@ -58,20 +59,21 @@ pub fn parts(text: &str) -> Vec<Named> {
         if let Some((span, names)) = found.last_mut().filter(|_| open) {
             span.end = at + line.len();
             let signed = signature_on(line);
-            if !signed.is_empty() {
+            if !signed.is_empty() && (margin || block) {
                 names.extend(signed);
             } else if margin && names.is_empty() {
-                names.extend(
-                    line.split_whitespace()
-                        .next()
-                        .map(spellings)
-                        .unwrap_or_default(),
-                );
+                names.extend(first_word(line));
             }
         }
         at += line.len();
     }
     found
+}
+
+fn first_word(line: &str) -> BTreeSet<String> {
+    let mut words = line.split_whitespace();
+    let word = words.find(|w| !MODIFIERS.contains(w));
+    word.map(spellings).unwrap_or_default()
 }
 
 /// The names that a line declares: of a record its own, of a signature what stands before the colon.
@@ -84,7 +86,8 @@ fn signature_on(line: &str) -> BTreeSet<String> {
     }
     let before: Vec<&str> = words.take_while(|w| *w != ":").collect();
     let plain = |w: &&str| !w.contains(['(', '{', '→', '}', ')', '=']);
-    if !code.contains(" : ") || before.len() > 3 || !before.iter().all(plain) {
+    let colon = code.split_whitespace().any(|w| w == ":");
+    if !colon || before.len() > 3 || !before.iter().all(plain) {
         return BTreeSet::new();
     }
     before.into_iter().flat_map(spellings).collect()
@@ -169,7 +172,7 @@ fn import(text: &str) -> Import {
 mod tests {
     use super::*;
 
-    const TEXT: &str = "-- Head.\nuse a.B.{c, _⊕_, d as e}\nuse a.F as tie\n\n-- one\nabbrev pub one : ℕ → ℕ\none n = tie.two n\n\npub record Claim (o : ℕ) : Type 0 where\n  pub left : ℕ\n\n  pub right : e\n\nmodule _ (n : ℕ) where\n  inside : ℕ\n  inside = n ⊕ 1\n\ntwo : one 1 ≡ 2\nunfolding one\ntwo = refl\n";
+    const TEXT: &str = "-- Head.\nuse a.B.{c, _⊕_, d as e}\nuse a.F as tie\n\n-- one\nabbrev pub one : ℕ → ℕ\none n = tie.two n\n\npub record Claim (o : ℕ) : Type 0 where\n  pub left : ℕ\n\n  pub right : e\n\nmodule _ (n : ℕ) where\n  inside : ℕ\n  inside = n ⊕ 1\n\npub two :\n    one 1 ≡ 2\nunfolding one\ntwo = refl\n";
 
     #[test]
     fn parts_begin_at_the_margin() {
