@@ -19,7 +19,7 @@ pub struct Account {
 }
 
 // A call on an account.
-#[derive(Drop)]
+#[derive(Clone, Copy)]
 pub enum Call {
     Register(Place),
     Use(Kind, u64),
@@ -36,7 +36,7 @@ pub struct Opened {
 }
 
 // The same with all of the account but its log.
-#[derive(Drop)]
+#[derive(Clone, Copy)]
 pub struct StateOpened {
     pub answer: Verdict,
     pub state: State,

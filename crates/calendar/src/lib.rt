@@ -1,4 +1,6 @@
 // The first days of the months, and the question whether a day is one of them. Day 0 is 1 January 2022.
+#![tactic(auto)]
+
 pub mod claims;
 
 ghost use Rattle.std.specs.Prelude.{◌≡◌, ◌<◌};

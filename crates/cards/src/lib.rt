@@ -1,5 +1,7 @@
 // The cards of a family box, a lent list of records (family-1 to family-6, form-9). Sums are held at one more than any
 // meter counts to, so that any numbers and any count of cards will do.
+#![tactic(auto)]
+
 ghost use Rattle.std.specs.Prelude.{◌≡◌, map, ◌+◌, min, set};
 ghost use Rattle.cards.specs.Cards.{card_sound, allowance_fits};
 ghost use Rattle.cards.specs.Survey.{start, survey_with, survey_of, held_sum, held_used, renewed, changed};
@@ -9,7 +11,7 @@ use tariff::Units;
 // A card's own lifetime units, its kB of the month at every place, and the kB that it may use in a month. Programs in C
 // have it as meter_card.
 #[repr(C)]
-#[derive(Drop)]
+#[derive(Clone, Copy)]
 pub struct Card {
     pub lifetime: Units,
     pub monthly: u64,
@@ -18,7 +20,7 @@ pub struct Card {
 
 // What one pass over the cards finds: how many they are, up to 17; their lifetime units together; is each sound; is
 // each allowance in range; and the card at a place, which `ahead` cards come before, unless it is found.
-#[derive(Drop)]
+#[derive(Clone, Copy)]
 pub struct Survey {
     pub count: u64,
     pub total: Units,
@@ -31,7 +33,7 @@ pub struct Survey {
 
 // What becomes of the cards: the one at a place is the card given; then, where all are renewed, each begins a month
 // or, where they are new, its life.
-#[derive(Drop)]
+#[derive(Clone, Copy)]
 pub struct Change {
     pub place: usize,
     pub card: Card,

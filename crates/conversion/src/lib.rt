@@ -6,7 +6,7 @@ pub mod importing;
 
 // What exporting the calls of a file answers: the length of the text; the number of a bad file; or the number that
 // declines the text.
-#[derive(Drop)]
+#[derive(Clone, Copy)]
 pub enum Exported {
     Bytes(usize),
     File(u64),
@@ -15,7 +15,7 @@ pub enum Exported {
 
 // What importing a text answers: the length of the file; the number, from 1, of the first line that is not of the form
 // (22); another number that declines the text; or the number that declines the writing.
-#[derive(Drop)]
+#[derive(Clone, Copy)]
 pub enum Imported {
     Bytes(usize),
     BadLine(usize),

@@ -12,7 +12,7 @@ use state::{State, StateApplied};
 use tariff::{Kind, Place, Plan};
 
 // A call on a box. The place of a card in the list, which counts from 0, tells whose use or Afford it is.
-#[derive(Drop)]
+#[derive(Clone, Copy)]
 pub enum BoxCall {
     Register(Place),
     Use(usize, Kind, u64),

@@ -20,14 +20,14 @@ use state::Answer;
 use tariff::{Plan, PlanAnswer, Verdict};
 
 // What a call on a box answers, and what becomes of the cards.
-#[derive(Drop)]
+#[derive(Clone, Copy)]
 pub struct BoxAnswered {
     pub answer: Answer,
     pub change: Change,
 }
 
 // What a function returns, and what becomes of the cards.
-#[derive(Drop)]
+#[derive(Clone, Copy)]
 pub struct BoxReturned {
     pub code: u64,
     pub change: Change,

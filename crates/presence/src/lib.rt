@@ -1,5 +1,7 @@
 // A day's marks and units, the log of the last days, and what it makes of the services (day-1, day-2, service-1 to
 // service-10, off-1 to off-4).
+#![tactic(auto)]
+
 pub mod claims;
 pub mod days;
 pub mod log;
@@ -9,14 +11,14 @@ pub mod window;
 use tariff::{Place, Units};
 
 // Where the hotspot is: nowhere before the first registration.
-#[derive(Drop)]
+#[derive(Clone, Copy)]
 pub enum Location {
     Nowhere,
     At(Place),
 }
 
 // A day: its marks, and its units by kind and place.
-#[derive(Drop)]
+#[derive(Clone, Copy)]
 pub struct Day {
     pub home: bool,
     pub zone: bool,
@@ -27,14 +29,14 @@ pub struct Day {
 }
 
 // What a day counts as.
-#[derive(Drop)]
+#[derive(Clone, Copy)]
 pub enum DayKind {
     HomeDay,
     ZoneDay,
     OffDay,
 }
 
-#[derive(Drop)]
+#[derive(Clone, Copy)]
 pub enum Service {
     DataService,
     CallService,
@@ -42,7 +44,7 @@ pub enum Service {
 }
 
 // Warned with its day changes so far.
-#[derive(Drop)]
+#[derive(Clone, Copy)]
 pub enum ServiceState {
     Clear,
     Warned(u64),
@@ -50,7 +52,7 @@ pub enum ServiceState {
 }
 
 // The states of the three services.
-#[derive(Drop)]
+#[derive(Clone, Copy)]
 pub struct Services {
     pub internet: ServiceState,
     pub calls: ServiceState,
@@ -58,14 +60,14 @@ pub struct Services {
 }
 
 // What a sum of units adds up: a service's zone units, or its other units.
-#[derive(Drop)]
+#[derive(Clone, Copy)]
 enum Column {
     ZoneUnits(Service),
     OtherUnits(Service),
 }
 
 // Which services are prevalent over a window of days.
-#[derive(Drop)]
+#[derive(Clone, Copy)]
 struct Prevalent {
     internet: bool,
     calls: bool,

@@ -13,7 +13,7 @@ use tariff::{Allowance, Form, Kind, Plan};
 // What a use of one kind costs rests on: the fewest units that a record is charged for, the units that the meters can
 // take yet, and the charged seconds; the units before the first that bears the home price, its price and what is priced
 // so far; the same of the surcharge, with the cap; and the points for the kind, with those that it took already.
-#[derive(Drop)]
+#[derive(Clone, Copy)]
 pub struct Quote {
     pub kind: Kind,
     pub least: u64,

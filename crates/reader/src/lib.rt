@@ -1,4 +1,6 @@
 // A reader over a calls section, thin over `decode` (reader-1, reader-2, form-7).
+#![tactic(auto)]
+
 ghost use Rattle.std.specs.Prelude.{◌≡◌};
 ghost use Rattle.reader.specs.Calls.{decoded, position_after};
 ghost use Rattle.reader.specs.Handed.{HandsOutCalls};
@@ -11,7 +13,7 @@ pub struct Reader<'a> {
 }
 
 // A call as it stands in the section, unchecked; or none.
-#[derive(Drop)]
+#[derive(Clone, Copy)]
 pub enum Step {
     Call { code: u32, number: u32 },
     End,

@@ -12,7 +12,7 @@ use state::{Answer, State, StateApplied};
 use tariff::{Kind, Place};
 
 // What a code and a number stand for.
-#[derive(Drop)]
+#[derive(Clone, Copy)]
 pub enum Coded {
     Known(Call),
     Unknown,
@@ -27,7 +27,7 @@ pub struct Replayed {
 
 // The same, of the account all but its log; and whether the account is known to be sound, so that no further call has
 // to look.
-#[derive(Drop)]
+#[derive(Clone, Copy)]
 pub struct Progress {
     pub state: State,
     pub refused: usize,

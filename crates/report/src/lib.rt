@@ -9,7 +9,7 @@ use tariff::{Allowance, Plan};
 use tripfile::Read;
 
 // The nine figures.
-#[derive(Drop)]
+#[derive(Clone, Copy)]
 pub struct Figures {
     pub day: u64,
     pub paid: u64,
@@ -23,7 +23,7 @@ pub struct Figures {
 }
 
 // What the program prints: the figures, or the number of a bad file.
-#[derive(Drop)]
+#[derive(Clone, Copy)]
 pub enum Report {
     Lines(Figures),
     Refused(u64),

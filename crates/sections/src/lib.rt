@@ -1,4 +1,6 @@
 // A file's length, sum and table, and finding a section (file-2 to file-6, find-1, find-2, refusal-10 to refusal-13).
+#![tactic(auto)]
+
 ghost use Rattle.std.specs.Prelude.{◌≡◌, true, cond, ◌&&◌, ◌+◌, ◌*◌, ◌≤◌, length, eqb};
 ghost use Rattle.tariff.specs.Tests.{is_accepted};
 ghost use Rattle.sections.specs.Table.{length_right, sum_right, table_right, follow_to, body_start};
@@ -9,7 +11,7 @@ ghost use Rattle.sections.specs.Find.{section_of, section_start, part_extent};
 use tariff::Verdict;
 
 // Where a section lies in a file: its first byte, counted from the file's, and how many bytes it has.
-#[derive(Drop)]
+#[derive(Clone, Copy)]
 pub struct Extent {
     pub start: usize,
     pub length: usize,

@@ -13,7 +13,7 @@ use presence::{Day, Location, Services};
 use tariff::{Allowance, Plan, Units};
 
 // Points: what is left, what was paid in, and what home charges and surcharges took of it.
-#[derive(Drop)]
+#[derive(Clone, Copy)]
 pub struct Money {
     pub credit: u64,
     pub paid: u64,
@@ -23,7 +23,7 @@ pub struct Money {
 
 // Over the account's life: units used, with seconds as spoken; outgoing seconds as charged; priced units; surcharged
 // units; the sums of cap x surcharged units.
-#[derive(Drop)]
+#[derive(Clone, Copy)]
 pub struct Meters {
     pub lifetime: Units,
     pub chargedseconds: u64,
@@ -33,7 +33,7 @@ pub struct Meters {
 }
 
 // H, R and L (limit-1, limit-2).
-#[derive(Drop)]
+#[derive(Clone, Copy)]
 pub struct Quota {
     pub monthly: u64,
     pub roamed: u64,
@@ -41,7 +41,7 @@ pub struct Quota {
 }
 
 // All of the account but its log.
-#[derive(Drop)]
+#[derive(Clone, Copy)]
 pub struct State {
     pub plan: Plan,
     pub day: u64,
@@ -55,7 +55,7 @@ pub struct State {
 }
 
 // What an accepted use answers: home and surcharge points taken, surcharged units, units charged, notice.
-#[derive(Drop)]
+#[derive(Clone, Copy)]
 pub struct Charge {
     pub home: u64,
     pub extra: u64,
@@ -66,7 +66,7 @@ pub struct Charge {
 
 // What a call answers: a use its charge, Afford its number, every other call that it is done; and any call that it is
 // refused, with the number.
-#[derive(Drop)]
+#[derive(Clone, Copy)]
 pub enum Answer {
     Done,
     Charged(Charge),
@@ -75,7 +75,7 @@ pub enum Answer {
 }
 
 // What a call answers, with all of the account but its log.
-#[derive(Drop)]
+#[derive(Clone, Copy)]
 pub struct StateApplied {
     pub answer: Answer,
     pub state: State,
@@ -83,7 +83,7 @@ pub struct StateApplied {
 
 // What a use makes of the sums: priced units, newly surcharged units, the sums of cap x surcharged units, home charges
 // and surcharges after it; and the kB that it adds to H and to R.
-#[derive(Drop)]
+#[derive(Clone, Copy)]
 pub struct Bill {
     pub billed: Units,
     pub fresh: Units,

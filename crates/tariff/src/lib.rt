@@ -1,5 +1,7 @@
 // Units and caps, the plan, and what an account works out from them (unit-1, unit-2, caps-1 to caps-3, plan-1 to
 // plan-7, limit-3 to limit-6, use-11, use-12, rows-1 to rows-3, fault-1 to fault-4).
+#![tactic(auto)]
+
 pub mod amounts;
 pub mod caps;
 pub mod charges;
@@ -8,7 +10,7 @@ pub mod plans;
 
 // Units of each kind of use: kB, outgoing seconds, incoming seconds, SMS. Also a number for each kind, as caps.
 #[repr(C)]
-#[derive(Drop)]
+#[derive(Clone, Copy)]
 pub struct Units {
     pub kb: u64,
     pub outgoing: u64,
@@ -17,7 +19,7 @@ pub struct Units {
 }
 
 // Kinds of use: data in kB, MMS included; outgoing and incoming seconds; SMS sent.
-#[derive(Drop)]
+#[derive(Clone, Copy)]
 pub enum Kind {
     Data,
     Outgoing,
@@ -26,7 +28,7 @@ pub enum Kind {
 }
 
 // Places: home; the zone, which is the EU/EEA abroad; elsewhere.
-#[derive(Drop)]
+#[derive(Clone, Copy)]
 pub enum Place {
     Home,
     Zone,
@@ -34,7 +36,7 @@ pub enum Place {
 }
 
 // The caps from a first day on.
-#[derive(Drop)]
+#[derive(Clone, Copy)]
 pub struct Row {
     pub first: u64,
     pub caps: Units,
@@ -42,20 +44,20 @@ pub struct Row {
 
 // Up to eight rows of five numbers: first day, and caps per GB, outgoing minute, incoming minute and SMS; 0 past the
 // rows.
-#[derive(Drop)]
+#[derive(Clone, Copy)]
 pub struct Table {
     pub count: u64,
     pub numbers: [u32; 40],
 }
 
 // The caps of a day, and how many rows were read to find them.
-#[derive(Drop)]
+#[derive(Clone, Copy)]
 pub struct Found {
     pub caps: Units,
     pub read: u64,
 }
 
-#[derive(Drop)]
+#[derive(Clone, Copy)]
 pub enum Form {
     Prepaid,
     Bundle,
@@ -63,7 +65,7 @@ pub enum Form {
 }
 
 // A plan: prices in points per GB, outgoing minute and SMS; fee in points a month; volume in kB a month.
-#[derive(Drop)]
+#[derive(Clone, Copy)]
 pub struct Plan {
     pub form: Form,
     pub start: u64,
@@ -75,7 +77,7 @@ pub struct Plan {
 }
 
 // A plan as it comes from outside, its form still a number.
-#[derive(Drop)]
+#[derive(Clone, Copy)]
 pub struct Terms {
     pub form: u64,
     pub start: u64,
@@ -87,20 +89,20 @@ pub struct Terms {
 }
 
 // Zone data limit: none, or a number of kB.
-#[derive(Drop)]
+#[derive(Clone, Copy)]
 pub enum Allowance {
     NoLimit,
     Kilobytes(u64),
 }
 
 // Accepted, or refused with a number (order-1).
-#[derive(Drop)]
+#[derive(Clone, Copy)]
 pub enum Verdict {
     Accepted,
     Refused(u64),
 }
 
-#[derive(Drop)]
+#[derive(Clone, Copy)]
 pub enum PlanAnswer {
     Granted(Plan),
     Refused(u64),

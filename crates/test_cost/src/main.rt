@@ -14,7 +14,7 @@ use state::{Answer, State};
 use tariff::{Form, Kind, Place, Plan};
 
 // How many calls were accepted, and a figure that shows what they did.
-#[derive(Drop)]
+#[derive(Clone, Copy)]
 struct Tally {
     accepted: u64,
     shown: u64,

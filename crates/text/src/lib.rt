@@ -1,10 +1,12 @@
 // Text in a lent buffer: pieces of bytes one after the other, and numbers in decimal; and numbers read from digits.
+#![tactic(auto)]
+
 ghost use Rattle.std.specs.Prelude.{◌≡◌, ◌&&◌, ◌+◌, ◌-◌, ◌*◌, ◌≤◌, ◌<◌, min, length, leb};
 ghost use Rattle.text.specs.Text.{placed, digit, decimal, no_leading_zero, figure_of};
 ghost use Rattle.text.specs.Claims.{DecimalReadsBack, DigitsAreDecimal};
 
 // What bytes read as: the number, held at 4,294,967,296, and whether they are the decimal text of a number.
-#[derive(Drop)]
+#[derive(Clone, Copy)]
 pub struct Figure {
     pub value: u64,
     pub right: bool,

@@ -6,7 +6,7 @@ pub mod reading;
 
 // What reading answers: the number of calls, which are in the lent lists; the number, from 1, of the first line that is
 // not of the form (22); or the number that declines the text.
-#[derive(Drop)]
+#[derive(Clone, Copy)]
 pub enum TextRead {
     Calls(usize),
     BadLine(usize),

@@ -9,7 +9,7 @@ use text::Figure;
 use tripfile::calls;
 
 // A name and its comma: the first `len` bytes.
-#[derive(Drop)]
+#[derive(Clone, Copy)]
 struct Heading {
     bytes: [u8; 9],
     len: usize,

@@ -1,4 +1,6 @@
 // The little-endian u32 words of a slice of bytes, and their wrapping sum (file-1, file-3, form-2).
+#![tactic(auto)]
+
 ghost use Rattle.std.specs.Prelude.{◌≡◌, ◌+◌, ◌*◌, ◌%◌, ◌<◌, ◌≤◌, ◌++◌, length, drop};
 ghost use Rattle.words.specs.Words.{word, with_word, bytes_of, wrapped_sum, closing_word};
 

@@ -6,28 +6,28 @@ use Rattle.calendar.proofs.Search.{Passed, passed_first, passed_next, decided, n
 use Rattle.calendar.proofs.starts_month.Statement.{statement}
 use Rattle.calendar.proofs.starts_month.Tie as tie
 
-abbrev invariant-loop : tie.invariant-loop
+abbrev invariant-loop : tie.invariant-loop-month
 invariant-loop day month₀ month = Passed day month
 
-abbrev decreases-loop : tie.decreases-loop
+abbrev decreases-loop : tie.decreases-loop-month
 decreases-loop day month₀ month = 132 - month
 
-loop-holds : tie.Need-loop-init invariant-loop decreases-loop
+loop-holds : tie.Need-loop-month-init invariant-loop decreases-loop
 loop-holds c = passed_first c.args.day _ (omega arith)
 
-returns : tie.Need-returns invariant-loop decreases-loop
+returns : tie.Need-returns-then-first-day invariant-loop decreases-loop
 returns c =
     let at = c.before.before.before in
-    rw c.before.month-start.ensures
-    (decided at.before.args.day at.loop.month (omega arith) at.loop.invariant (omega (arith, c.before.month-start.ensures)))
+    rw c.before.month_start-first.ensures
+    (decided at.before.args.day at.loop-month.month (omega arith) at.loop-month.invariant (omega (arith, c.before.month_start-first.ensures)))
 
-loop-again : tie.Need-loop-preserved invariant-loop decreases-loop
+loop-again : tie.Need-loop-month-preserved invariant-loop decreases-loop
 loop-again c =
     let at = c.before.before.before in
-    passed_next at.before.args.day at.loop.month at.loop.invariant (omega (arith, c.before.month-start.ensures))
+    passed_next at.before.args.day at.loop-month.month at.loop-month.invariant (omega (arith, c.before.month_start-first.ensures))
 
-returns-2 : tie.Need-returns-2 invariant-loop decreases-loop
-returns-2 c = nowhere c.before.before.args.day c.before.loop.month (omega arith) c.before.loop.invariant
+returns-2 : tie.Need-returns invariant-loop decreases-loop
+returns-2 c = nowhere c.before.before.args.day c.before.loop-month.month (omega arith) c.before.loop-month.invariant
 
 pub starts_month_spec : {M : Type 1} → statement M
 starts_month_spec =

@@ -6,45 +6,39 @@ use borrow.Author.Rules.{rules}
 use Rattle.cards.proofs.add_card.Statement.{statement}
 use Rattle.cards.proofs.add_card.Tie as tie
 
-returns : tie.Need-returns
+returns : tie.Need-returns-then-s
 unfolding survey_with
 returns c =
-    let d = c.before.before.before in
-    let e = d.before.before in
     simp (
-      d.in_range.ensures,
-      e.card-fits.ensures,
-      e.before.one_more.ensures,
-      e.before.before.hold-units.ensures,
-      c.before.if1.true,
+      c.in_range.ensures,
+      c.card_fits.ensures,
+      c.one_more-count.ensures,
+      c.hold_units-total.ensures,
+      c.if-s.true,
     )
 
-returns-2 : tie.Need-returns-2
+returns-2 : tie.Need-returns-then-s-gt0
 unfolding survey_with
 returns-2 c =
-    let d = c.before.before.before.before.before.before in
-    let e = d.before.before in
     simp (
-      d.in_range.ensures,
-      e.card-fits.ensures,
-      e.before.one_more.ensures,
-      e.before.before.hold-units.ensures,
-      c.before.before.before.before.if1.false,
-      lt-ltb 0 e.before.before.before.args.s.ahead (omega (arith, c.before.before.if2.true)),
+      c.in_range.ensures,
+      c.card_fits.ensures,
+      c.one_more-count.ensures,
+      c.hold_units-total.ensures,
+      c.if-s.false,
+      lt-ltb 0 c.args.s.ahead (omega (arith, c.if-s-gt0.true)),
     )
 
-returns-3 : tie.Need-returns-3
+returns-3 : tie.Need-returns
 unfolding survey_with
 returns-3 c =
-    let d = c.before.before.before.before in
-    let e = d.before.before in
     simp (
-      d.in_range.ensures,
-      e.card-fits.ensures,
-      e.before.one_more.ensures,
-      e.before.before.hold-units.ensures,
-      c.before.before.if1.false,
-      le-ltb 0 e.before.before.before.args.s.ahead (omega (arith, c.if2.false)),
+      c.in_range.ensures,
+      c.card_fits.ensures,
+      c.one_more-count.ensures,
+      c.hold_units-total.ensures,
+      c.if-s.false,
+      le-ltb 0 c.args.s.ahead (omega (arith, c.if-s-gt0.false)),
     )
 
 pub add_card_spec : {M : Type 1} → statement M

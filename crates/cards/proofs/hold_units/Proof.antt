@@ -4,7 +4,7 @@ use Rattle.cards.proofs.hold_units.Statement.{statement}
 use Rattle.cards.proofs.hold_units.Tie as tie
 
 returns : tie.Need-returns
-returns c = simp (c.hold4.ensures, c.before.hold3.ensures, c.before.before.hold2.ensures, c.before.before.before.hold.ensures)
+returns c = simp (c.hold-4.ensures, c.hold-3.ensures, c.hold-2.ensures, c.hold.ensures)
 
 pub hold_units_spec : {M : Type 1} → statement M
 hold_units_spec =

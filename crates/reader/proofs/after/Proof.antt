@@ -7,24 +7,24 @@ use borrow.Author.Rules.{rules}
 use Rattle.reader.proofs.after.Statement.{statement}
 use Rattle.reader.proofs.after.Tie as tie
 
-returns : tie.Need-returns
+returns : tie.Need-returns-then-at-s
 returns c =
-    let s = c.before.args.s.now in
-    let at = c.before.args.at in
+    let s = c.args.s.now in
+    let at = c.args.at in
     let h : length s < at + 8 = omega arith in
     simp (lt-leb (at + 8) (length s) h)
 
-returns-2 : tie.Need-returns-2
+returns-2 : tie.Need-returns-then-s-at-lt8
 returns-2 c =
-    let s = c.before.before.args.s.now in
-    let at = c.before.before.args.at in
+    let s = c.args.s.now in
+    let at = c.args.at in
     let h : length s < at + 8 = omega arith in
     simp (lt-leb (at + 8) (length s) h)
 
-returns-3 : tie.Need-returns-3
+returns-3 : tie.Need-returns
 returns-3 c =
-    let s = c.before.before.args.s.now in
-    let at = c.before.before.args.at in
+    let s = c.args.s.now in
+    let at = c.args.at in
     let h : at + 8 ≤ length s = omega arith in
     simp (le-leb (at + 8) (length s) h)
 

@@ -12,28 +12,28 @@ use borrow.Author.Rules.{rules}
 use Rattle.reader.proofs.decode.Statement.{statement}
 use Rattle.reader.proofs.decode.Tie as tie
 
-returns : tie.Need-returns
+returns : tie.Need-returns-then-at-s
 returns c =
-    let s = c.before.before.args.s.now in
-    let at = c.before.before.args.at in
+    let s = c.args.s.now in
+    let at = c.args.at in
     let h : length s < at + 8 = omega arith in
     simp (lt-leb (at + 8) (length s) h)
 
-returns-2 : tie.Need-returns-2
+returns-2 : tie.Need-returns-then-s-at-lt8
 returns-2 c =
-    let s = c.before.before.before.args.s.now in
-    let at = c.before.before.before.args.at in
+    let s = c.args.s.now in
+    let at = c.args.at in
     let h : length s < at + 8 = omega arith in
     simp (lt-leb (at + 8) (length s) h)
 
-returns-3 : tie.Need-returns-3
+returns-3 : tie.Need-returns
 returns-3 c =
-    let s = c.before.before.before.before.before.before.args.s.now in
-    let at = c.before.before.before.before.before.before.args.at in
+    let s = c.args.s.now in
+    let at = c.args.at in
     let h : at + 8 ≤ length s = omega arith in
     let e : take (length s - at) (drop at s) ≡ drop at s = take_all (length s - at) (drop at s) (simp length-drop (omega arith)) in
-    let w : c.before.word_at.result ≡ word (drop at s) 0 = rw e at c.before.word_at.ensures in
-    let v : c.word-at2.result ≡ word (drop at s) 1 = rw e at c.word-at2.ensures in
+    let w : c.word_at-code.result ≡ word (drop at s) 0 = rw e at c.word_at-code.ensures in
+    let v : c.word_at-number.result ≡ word (drop at s) 1 = rw e at c.word_at-number.ensures in
     simp (w, v, le-leb (at + 8) (length s) h)
 
 pub decode_spec : {M : Type 1} → statement M

@@ -8,28 +8,27 @@ use Rattle.sections.proofs.Finding.{entry_more}
 use Rattle.sections.proofs.entry_among.Statement.{statement}
 use Rattle.sections.proofs.entry_among.Tie as tie
 
-abbrev invariant-loop : tie.invariant-loop
+abbrev invariant-loop : tie.invariant-loop-i
 invariant-loop file kind count entry₀ i₀ entry i = (i ≤ count) × (entry ≡ entry_to file kind i)
 
-abbrev decreases-loop : tie.decreases-loop
+abbrev decreases-loop : tie.decreases-loop-i
 decreases-loop file kind count entry₀ i₀ entry i = count - i
 
-loop-holds : tie.Need-loop-init invariant-loop decreases-loop
+loop-holds : tie.Need-loop-i-init invariant-loop decreases-loop
 unfolding entry_to
 loop-holds c = (search rules, refl)
 
-loop-again : tie.Need-loop-preserved invariant-loop decreases-loop
+loop-again : tie.Need-loop-i-preserved invariant-loop decreases-loop
 loop-again c =
-    let l = c.before.before.before in
-    let f = l.before.before.args.file.now in
-    let k = l.before.before.args.kind in
-    let more = entry_more f k l.loop.i in
-    (omega arith, simp (c.either.ensures, c.before.word_at.ensures, l.loop.invariant.1, more))
+    let f = c.args.file.now in
+    let k = c.args.kind in
+    let more = entry_more f k c.loop-i.i in
+    (omega arith, simp (c.either-entry.ensures, c.word_at.ensures, c.loop-i.invariant.1, more))
 
 returns : tie.Need-returns invariant-loop decreases-loop
 returns c =
-    let e : c.before.loop.i ≡ c.before.before.before.args.count = omega arith in
-    c.before.loop.invariant.1 ∙ ap (entry_to c.before.before.before.args.file.now c.before.before.before.args.kind) e
+    let e : c.loop-i.i ≡ c.args.count = omega arith in
+    c.loop-i.invariant.1 ∙ ap (entry_to c.args.file.now c.args.kind) e
 
 pub entry_among_spec : {M : Type 1} → statement M
 entry_among_spec =

@@ -9,30 +9,30 @@ use borrow.Author.Rules.{rules}
 use Rattle.sections.proofs.file_verdict.Statement.{statement}
 use Rattle.sections.proofs.file_verdict.Tie as tie
 
-is_long : (c : tie.Else1) → length_right c.before.before.before.args.file.now ≡ true
-is_long c = sym c.before.length_right.ensures ∙ not-false c.before.length_right.result c.if1.false
+is_long : (c : tie.Else-not-length_right) → length_right c.args.file.now ≡ true
+is_long c = sym c.length_right.ensures ∙ not-false c.length_right.result c.if-not-length_right.false
 
-is_summed : (c : tie.Else2) → sum_right c.before.before.before.before.before.args.file.now ≡ true
-is_summed c = sym c.before.sum_right.ensures ∙ not-false c.before.sum_right.result c.if2.false
+is_summed : (c : tie.Else-not-sum_right) → sum_right c.args.file.now ≡ true
+is_summed c = sym c.sum_right.ensures ∙ not-false c.sum_right.result c.if-not-sum_right.false
 
-returns : tie.Need-returns
+returns : tie.Need-returns-then-not-length_right
 unfolding file_verdict file_reasons verdict_of
-returns c = simp (sym c.before.length_right.ensures ∙ not-true c.before.length_right.result c.if1.true)
+returns c = simp (sym c.length_right.ensures ∙ not-true c.length_right.result c.if-not-length_right.true)
 
-returns-2 : tie.Need-returns-2
+returns-2 : tie.Need-returns-then-not-sum_right
 unfolding file_verdict file_reasons verdict_of
-returns-2 c = simp (is_long c.before.before, sym c.before.sum_right.ensures ∙ not-true c.before.sum_right.result c.if2.true)
+returns-2 c = simp (is_long c.before.before, sym c.sum_right.ensures ∙ not-true c.sum_right.result c.if-not-sum_right.true)
 
-table-right-requires : tie.Need-table-right-requires
-table-right-requires c κs = at_least c.before.before.before.before.before.args.file.now (is_long c.before.before)
+table-right-requires : tie.Need-table_right-requires
+table-right-requires c κs = at_least c.args.file.now (is_long c.before.before)
 
-returns-3 : tie.Need-returns-3
+returns-3 : tie.Need-returns-then-not-table_right
 unfolding file_verdict file_reasons verdict_of
-returns-3 c = simp (is_long c.before.before.before.before, is_summed c.before.before, sym c.before.table_right.ensures ∙ not-true c.before.table_right.result c.if3.true)
+returns-3 c = simp (is_long c.before.before.before.before, is_summed c.before.before, sym c.table_right.ensures ∙ not-true c.table_right.result c.if-not-table_right.true)
 
-returns-4 : tie.Need-returns-4
+returns-4 : tie.Need-returns
 unfolding file_verdict file_reasons verdict_of
-returns-4 c = simp (is_long c.before.before.before.before, is_summed c.before.before, sym c.before.table_right.ensures ∙ not-false c.before.table_right.result c.if3.false)
+returns-4 c = simp (is_long c.before.before.before.before, is_summed c.before.before, sym c.table_right.ensures ∙ not-false c.table_right.result c.if-not-table_right.false)
 
 pub file_verdict_spec : {M : Type 1} → statement M
 file_verdict_spec =

@@ -9,18 +9,18 @@ use Rattle.sections.proofs.find.Statement.{statement}
 use Rattle.sections.proofs.find.Tie as tie
 
 part-requires : tie.Need-part-requires
-part-requires c κs = found_both c.before.before.before.before.args.file.now c.before.before.before.before.args.kind (ap is_accepted (sym c.before.before.find_verdict.ensures ∙ c.enum-told2.given.1))
+part-requires c κs = found_both c.args.file.now c.args.kind (ap is_accepted (sym c.find_verdict-v.ensures ∙ c.in-Accepted.is))
 
-returns : tie.Need-returns
+returns : tie.Need-returns-in-Refused
 unfolding section_of section_start
 returns c =
-    let e = sym c.before.before.before.find_verdict.ensures ∙ c.before.enum_told.given.1 in
+    let e = sym c.find_verdict-v.ensures ∙ c.in-Refused.is in
     (simp e, (refl, simp e (omega arith)))
 
-returns-2 : tie.Need-returns-2
+returns-2 : tie.Need-returns-in-Accepted
 unfolding section_of section_start
 returns-2 c =
-    let e = sym c.before.before.before.find_verdict.ensures ∙ c.before.enum-told2.given.1 in
+    let e = sym c.find_verdict-v.ensures ∙ c.in-Accepted.is in
     (simp (e, c.part.ensures.0), (c.part.ensures.1.0, simp (e, c.part.ensures.1.1)))
 
 pub find_spec : {M : Type 1} → statement M

@@ -8,26 +8,23 @@ use borrow.Author.Rules.{rules}
 use Rattle.sections.proofs.find_verdict.Statement.{statement}
 use Rattle.sections.proofs.find_verdict.Tie as tie
 
-accepted_here : (c : tie.After-enum-told) → file_verdict c.before.before.before.before.args.file.now ≡ Accepted
-accepted_here c = sym c.before.before.file_verdict.ensures ∙ c.enum_told.given.1
+accepted_here : (c : tie.In-Accepted) → file_verdict c.args.file.now ≡ Accepted
+accepted_here c = sym c.file_verdict-v.ensures ∙ c.in-Accepted.is
 
-is-once-requires : tie.Need-is-once-requires
+is-once-requires : tie.Need-is_once-requires
 is-once-requires c κs = ap is_accepted (accepted_here c)
 
-returns : tie.Need-returns
+returns : tie.Need-returns-in-Refused
 returns c =
-    let b = c.before.before.before.before.before in
-    simp (find_then b.args.file.now b.args.kind, sym c.before.before.before.file_verdict.ensures ∙ c.before.v.given.1)
+    simp (find_then c.args.file.now c.args.kind, sym c.file_verdict-v.ensures ∙ c.in-Refused.is)
 
-returns-2 : tie.Need-returns-2
+returns-2 : tie.Need-returns-then-is_once
 returns-2 c =
-    let b = c.before.before.before.before.before.before in
-    simp (find_then b.args.file.now b.args.kind, accepted_here c.before.before, sym c.before.is-once.ensures ∙ c.if1.true)
+    simp (find_then c.args.file.now c.args.kind, accepted_here c.before.before, sym c.is_once.ensures ∙ c.if-is_once.true)
 
-returns-3 : tie.Need-returns-3
+returns-3 : tie.Need-returns-else-is_once
 returns-3 c =
-    let b = c.before.before.before.before.before.before in
-    simp (find_then b.args.file.now b.args.kind, accepted_here c.before.before, sym c.before.is-once.ensures ∙ c.if1.false)
+    simp (find_then c.args.file.now c.args.kind, accepted_here c.before.before, sym c.is_once.ensures ∙ c.if-is_once.false)
 
 pub find_verdict_spec : {M : Type 1} → statement M
 find_verdict_spec =

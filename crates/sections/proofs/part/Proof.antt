@@ -11,30 +11,29 @@ use borrow.Author.Rules.{rules}
 use Rattle.sections.proofs.part.Statement.{statement}
 use Rattle.sections.proofs.part.Tie as tie
 
-start_is : (c : tie.After-part-extent) → c.part_extent.result.start ≡ part_start c.before.before.args.file.now c.before.before.args.kind
-start_is c = ap (λ (e : Extent). e.start) c.part_extent.ensures
+start_is : (c : tie.After-part_extent-e) → c.part_extent-e.result.start ≡ part_start c.args.file.now c.args.kind
+start_is c = ap (λ (e : Extent). e.start) c.part_extent-e.ensures
 
-length_is : (c : tie.After-part-extent) → c.part_extent.result.length ≡ part_length c.before.before.args.file.now c.before.before.args.kind
-length_is c = ap (λ (e : Extent). e.length) c.part_extent.ensures
+length_is : (c : tie.After-part_extent-e) → c.part_extent-e.result.length ≡ part_length c.args.file.now c.args.kind
+length_is c = ap (λ (e : Extent). e.length) c.part_extent-e.ensures
 
-within : (c : tie.After-part-extent) → c.part_extent.result.start + c.part_extent.result.length ≤ length c.before.before.args.file.now
-within c = let d = c.before.before in
-    rw (start_is c, length_is c) (part_within d.args.file.now d.args.kind (keeps d.args.file.now d.requires.0) d.requires.1)
+within : (c : tie.After-part_extent-e) → c.part_extent-e.result.start + c.part_extent-e.result.length ≤ length c.args.file.now
+within c = 
+    rw (start_is c, length_is c) (part_within c.args.file.now c.args.kind (keeps c.args.file.now c.requires.0) c.requires.1)
 
-add_end : tie.Need-overflow-add-end
+add_end : tie.Need-overflow_add-end
 add_end c = omega (arith, within c.before)
 
-part-result-end : tie.Need-slice-bounds-result-end
+part-result-end : tie.Need-slice_bounds-result-end
 part-result-end c = omega (arith, within c.before)
 
 returns : tie.Need-returns
 returns c =
-    let m = c.before.before in
-    let s = m.part_extent.result.start in
-    let n = m.part_extent.result.length in
+    let s = c.part_extent-e.result.start in
+    let n = c.part_extent-e.result.length in
     let e : s + n - s ≡ n = omega arith in
-    let f = m.before.before.args.file.now in
-    (rw e (ap (λ (k : ℕ). take n (drop k f)) (start_is m) ∙ (ap (λ (k : ℕ). take k (drop (part_start f m.before.before.args.kind) f)) (length_is m) ∙ part_bytes f m.before.before.args.kind)), (refl, omega (arith, start_is m)))
+    let f = c.args.file.now in
+    (rw e (ap (λ (k : ℕ). take n (drop k f)) (start_is c.before.before) ∙ (ap (λ (k : ℕ). take k (drop (part_start f c.args.kind) f)) (length_is c.before.before) ∙ part_bytes f c.args.kind)), (refl, omega (arith, start_is c.before.before)))
 
 pub part_spec : {M : Type 1} → statement M
 part_spec =

@@ -8,20 +8,20 @@ use Rattle.text.proofs.Decimals.{length_small, length_more, u64_digits}
 use Rattle.text.proofs.decimal_length.Statement.{statement}
 use Rattle.text.proofs.decimal_length.Tie as tie
 
-abbrev invariant-loop : tie.invariant-loop
+abbrev invariant-loop : tie.invariant-loop-rest
 invariant-loop n rest₀ digits₀ rest digits = (digits + length (decimal rest) ≡ length (decimal n) + 1) × (rest < 2 ^ 64)
 
-abbrev decreases-loop : tie.decreases-loop
+abbrev decreases-loop : tie.decreases-loop-rest
 decreases-loop n rest₀ digits₀ rest digits = rest
 
-add_digits : tie.Need-overflow-add-digits invariant-loop decreases-loop
+add_digits : tie.Need-overflow_add-digits invariant-loop decreases-loop
 add_digits c = let l = c.before in omega (arith, u64_digits l.before.args.n (omega arith))
 
-loop-again : tie.Need-loop-preserved invariant-loop decreases-loop
-loop-again c = let l = c.before in (omega (arith, length_more l.loop.rest (omega arith)), omega arith)
+loop-again : tie.Need-loop-rest-preserved invariant-loop decreases-loop
+loop-again c = let l = c.before in (omega (arith, length_more l.loop-rest.rest (omega arith)), omega arith)
 
 returns : tie.Need-returns invariant-loop decreases-loop
-returns c = omega (arith, length_small c.before.loop.rest (omega arith))
+returns c = omega (arith, length_small c.before.loop-rest.rest (omega arith))
 
 pub decimal_length_spec : {M : Type 1} → statement M
 decimal_length_spec =

@@ -6,7 +6,7 @@ use Rattle.words.proofs.put_word.Tie as tie
 
 returns : tie.Need-returns
 returns c =
-    rw (← c.before.before.before.lowest.ensures, ← c.before.before.lowest2.ensures, ← c.before.lowest3.ensures, ← c.lowest4.ensures)
+    rw (← c.before.before.before.lowest.ensures, ← c.before.before.lowest-2.ensures, ← c.before.lowest-3.ensures, ← c.lowest-4.ensures)
     (four_stores _ _ _ _ _ _ c.before.before.before.before.before.requires)
 
 pub put_word_spec : {M : Type 1} → statement M

@@ -6,7 +6,7 @@ use Rattle.tariff.proofs.caps.caps_of.Statement.{statement}
 use Rattle.tariff.proofs.caps.caps_of.Tie as tie
 
 returns : tie.Need-returns
-returns c = rw c.before.find-caps.ensures (search_finds_caps built_in c.before.before.args.day)
+returns c = rw c.find_caps-found.ensures (search_finds_caps built_in c.args.day)
 
 pub caps_of_spec : {M : Type 1} → statement M
 caps_of_spec = tie.close (tie.spec (λ c κs. search rules) returns)

@@ -7,7 +7,7 @@ use Rattle.tariff.proofs.caps.find_caps.Tie as tie
 
 search-requires : tie.Need-search-requires
 unfolding built_in table_of
-search-requires c κs = rw c.before.before.table-built-in.ensures (omega arith)
+search-requires c κs = rw c.table_built_in-t.ensures (omega arith)
 
 pub find_caps_spec : {M : Type 1} → statement M
-find_caps_spec = tie.close (tie.spec (λ c κs. search rules) search-requires (λ c. rw c.before.before.before.table-built-in.ensures at c.search.ensures))
+find_caps_spec = tie.close (tie.spec (λ c κs. search rules) search-requires (λ c. rw c.table_built_in-t.ensures at c.search.ensures))

@@ -6,7 +6,7 @@ use Rattle.tariff.proofs.caps.row_at.Tie as tie
 
 returns : tie.Need-returns
 unfolding row_at
-returns c = simp (c.number-at5.ensures, c.before.number-at4.ensures, c.before.before.number-at3.ensures, c.before.before.before.number-at2.ensures, c.before.before.before.before.number_at.ensures)
+returns c = simp (c.number_at-sms.ensures, c.number_at-incoming.ensures, c.number_at-outgoing.ensures, c.number_at-kb.ensures, c.number_at-first.ensures)
 
 pub row_at_spec : {M : Type 1} → statement M
 row_at_spec = tie.close (tie.spec (λ c κs. search rules) (λ c κs. search rules) (λ c κs. search rules) (λ c κs. search rules) (λ c κs. search rules) returns)

@@ -5,15 +5,15 @@ use borrow.Author.Rules.{rules}
 use Rattle.tariff.proofs.charges.after_the_first.Statement.{statement}
 use Rattle.tariff.proofs.charges.after_the_first.Tie as tie
 
-returns : tie.Need-returns
+returns : tie.Need-returns-then-limit-before
 unfolding after_first
 returns c = omega arith
 
-returns-2 : tie.Need-returns-2
+returns-2 : tie.Need-returns-then-n-room
 unfolding after_first
 returns-2 c = omega arith
 
-returns-3 : tie.Need-returns-3
+returns-3 : tie.Need-returns
 unfolding after_first
 returns-3 c = omega arith
 

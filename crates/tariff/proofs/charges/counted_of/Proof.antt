@@ -4,17 +4,17 @@ use borrow.Author.Rules.{rules}
 use Rattle.tariff.proofs.charges.counted_of.Statement.{statement}
 use Rattle.tariff.proofs.charges.counted_of.Tie as tie
 
-returns : tie.Need-returns
+returns : tie.Need-returns-in-Prepaid
 unfolding counted_kb
-returns c = simp c.enum_told.given.1
+returns c = simp c.in-Prepaid.is
 
-returns-2 : tie.Need-returns-2
+returns-2 : tie.Need-returns-in-Bundle
 unfolding counted_kb
-returns-2 c = simp c.enum-told2.given.1
+returns-2 c = simp c.in-Bundle.is
 
-returns-3 : tie.Need-returns-3
+returns-3 : tie.Need-returns-in-Unlimited
 unfolding counted_kb
-returns-3 c = simp c.enum-told3.given.1
+returns-3 c = simp c.in-Unlimited.is
 
 pub counted_of_spec : {M : Type 1} → statement M
 counted_of_spec =

@@ -6,20 +6,20 @@ use mathlib.Core.Path.{refl}
 use Rattle.tariff.proofs.charges.home_of.Statement.{statement}
 use Rattle.tariff.proofs.charges.home_of.Tie as tie
 
-mul-result : tie.Need-overflow-mul-result
-mul-result c = omega (arith, mul-le-mul c.before.before.requires.gigabyte c.before.before.requires.kilobytes)
+mul-result : tie.Need-overflow_mul-result
+mul-result c = omega (arith, mul-le-mul c.requires.gigabyte c.requires.kilobytes)
 
-mul-result-2 : tie.Need-overflow-mul-result-2
-mul-result-2 c = omega (arith, mul-le-mul c.before.before.before.before.requires.minute c.before.before.before.before.requires.seconds)
+mul-result-2 : tie.Need-overflow_mul-result-2
+mul-result-2 c = omega (arith, mul-le-mul c.requires.minute c.requires.seconds)
 
-add-result : tie.Need-overflow-add-result
-add-result c = omega (arith, mul-le-mul c.before.before.before.before.requires.gigabyte c.before.before.before.before.requires.kilobytes, mul-le-mul c.before.before.before.before.requires.minute c.before.before.before.before.requires.seconds)
+add-result : tie.Need-overflow_add-result
+add-result c = omega (arith, mul-le-mul c.requires.gigabyte c.requires.kilobytes, mul-le-mul c.requires.minute c.requires.seconds)
 
-mul-result-3 : tie.Need-overflow-mul-result-3
-mul-result-3 c = omega (arith, mul-le-mul c.before.before.before.before.before.before.requires.message c.before.before.before.before.before.before.requires.messages)
+mul-result-3 : tie.Need-overflow_mul-result-3
+mul-result-3 c = omega (arith, mul-le-mul c.requires.message c.requires.messages)
 
-add-result-2 : tie.Need-overflow-add-result-2
-add-result-2 c = omega (arith, mul-le-mul c.before.before.before.before.before.before.requires.gigabyte c.before.before.before.before.before.before.requires.kilobytes, mul-le-mul c.before.before.before.before.before.before.requires.minute c.before.before.before.before.before.before.requires.seconds, mul-le-mul c.before.before.before.before.before.before.requires.message c.before.before.before.before.before.before.requires.messages)
+add-result-2 : tie.Need-overflow_add-result-2
+add-result-2 c = omega (arith, mul-le-mul c.requires.gigabyte c.requires.kilobytes, mul-le-mul c.requires.minute c.requires.seconds, mul-le-mul c.requires.message c.requires.messages)
 
 returns : tie.Need-returns
 unfolding home_charges_of

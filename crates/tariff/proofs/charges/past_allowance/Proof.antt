@@ -4,13 +4,13 @@ use borrow.Author.Rules.{rules}
 use Rattle.tariff.proofs.charges.past_allowance.Statement.{statement}
 use Rattle.tariff.proofs.charges.past_allowance.Tie as tie
 
-returns : tie.Need-returns
+returns : tie.Need-returns-in-NoLimit
 unfolding after_allowance
-returns c = simp c.enum_told.given.1
+returns c = simp c.in-NoLimit.is
 
-returns-2 : tie.Need-returns-2
+returns-2 : tie.Need-returns-in-Kilobytes
 unfolding after_allowance
-returns-2 c = simp (c.after-the-first.ensures, c.before.before.l.given.1)
+returns-2 c = simp (c.after_the_first.ensures, c.in-Kilobytes.is)
 
 pub past_allowance_spec : {M : Type 1} → statement M
 past_allowance_spec =

@@ -5,17 +5,17 @@ use borrow.Author.Rules.{rules}
 use Rattle.tariff.proofs.plans.allowance_of.Statement.{statement}
 use Rattle.tariff.proofs.plans.allowance_of.Tie as tie
 
-returns : tie.Need-returns
+returns : tie.Need-returns-then-prepaid
 unfolding plan_allowance
-returns c = rw (sym c.before.prepaid.ensures ∙ c.if1.true)
+returns c = rw (sym c.prepaid.ensures ∙ c.if-prepaid.true)
 
-returns-2 : tie.Need-returns-2
+returns-2 : tie.Need-returns-then-is_open
 unfolding plan_allowance
-returns-2 c = simp (sym c.before.before.before.before.prepaid.ensures ∙ c.before.before.before.if1.false, sym c.before.before.is_open.ensures ∙ c.before.if2.true)
+returns-2 c = simp (sym c.prepaid.ensures ∙ c.if-prepaid.false, sym c.is_open.ensures ∙ c.if-is_open.true)
 
-returns-3 : tie.Need-returns-3
+returns-3 : tie.Need-returns
 unfolding plan_allowance
-returns-3 c = simp (sym c.before.before.before.prepaid.ensures ∙ c.before.before.if1.false, sym c.before.is_open.ensures ∙ c.if2.false)
+returns-3 c = simp (sym c.prepaid.ensures ∙ c.if-prepaid.false, sym c.is_open.ensures ∙ c.if-is_open.false)
 
 pub allowance_of_spec : {M : Type 1} → statement M
 allowance_of_spec =

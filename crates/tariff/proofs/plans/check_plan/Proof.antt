@@ -5,40 +5,29 @@ use borrow.Author.Rules.{rules}
 use Rattle.tariff.proofs.plans.check_plan.Statement.{statement}
 use Rattle.tariff.proofs.plans.check_plan.Tie as tie
 
-returns : tie.Need-returns
+returns : tie.Need-returns-then-not-leaves_unused
 unfolding plan_verdict plan_reasons amount_reasons verdict_of
-returns c = simp (← c.before.leaves-unused.ensures, c.if1.true)
+returns c = simp (← c.leaves_unused.ensures, c.if-not-leaves_unused.true)
 
-returns-2 : tie.Need-returns-2
+returns-2 : tie.Need-returns-then-not-prices_fit
 unfolding plan_verdict plan_reasons amount_reasons verdict_of
 returns-2 c =
-    let price = c.before in
-    let unused = price.before in
-    simp (← price.prices-fit.ensures, ← unused.before.leaves-unused.ensures, unused.if1.false, c.if2.true)
+    simp (← c.prices_fit.ensures, ← c.leaves_unused.ensures, c.if-not-leaves_unused.false, c.if-not-prices_fit.true)
 
-returns-3 : tie.Need-returns-3
+returns-3 : tie.Need-returns-then-not-terms_fit
 unfolding plan_verdict plan_reasons amount_reasons verdict_of
 returns-3 c =
-    let fee = c.before in
-    let price = fee.before in
-    let unused = price.before.before in
-    simp (← fee.terms-fit.ensures, ← price.before.prices-fit.ensures, ← unused.before.leaves-unused.ensures, unused.if1.false, price.if2.false, c.if3.true)
+    simp (← c.terms_fit.ensures, ← c.prices_fit.ensures, ← c.leaves_unused.ensures, c.if-not-leaves_unused.false, c.if-not-prices_fit.false, c.if-not-terms_fit.true)
 
-returns-4 : tie.Need-returns-4
+returns-4 : tie.Need-returns-then-not-p
 unfolding plan_verdict plan_reasons amount_reasons verdict_of
 returns-4 c =
-    let fee = c.before.before.before in
-    let price = fee.before.before in
-    let unused = price.before.before in
-    simp (← fee.before.terms-fit.ensures, ← price.before.prices-fit.ensures, ← unused.before.leaves-unused.ensures, unused.if1.false, price.if2.false, fee.if3.false, c.if4.true)
+    simp (← c.terms_fit.ensures, ← c.prices_fit.ensures, ← c.leaves_unused.ensures, c.if-not-leaves_unused.false, c.if-not-prices_fit.false, c.if-not-terms_fit.false, c.if-not-p.true)
 
-returns-5 : tie.Need-returns-5
+returns-5 : tie.Need-returns
 unfolding plan_verdict plan_reasons amount_reasons verdict_of
 returns-5 c =
-    let fee = c.before.before.before in
-    let price = fee.before.before in
-    let unused = price.before.before in
-    simp (← fee.before.terms-fit.ensures, ← price.before.prices-fit.ensures, ← unused.before.leaves-unused.ensures, unused.if1.false, price.if2.false, fee.if3.false, c.if4.false)
+    simp (← c.terms_fit.ensures, ← c.prices_fit.ensures, ← c.leaves_unused.ensures, c.if-not-leaves_unused.false, c.if-not-prices_fit.false, c.if-not-terms_fit.false, c.if-not-p.false)
 
 pub check_plan_spec : {M : Type 1} → statement M
 check_plan_spec =

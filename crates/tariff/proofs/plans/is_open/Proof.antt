@@ -6,20 +6,20 @@ use borrow.Author.Rules.{rules}
 use Rattle.tariff.proofs.plans.is_open.Statement.{statement}
 use Rattle.tariff.proofs.plans.is_open.Tie as tie
 
-mul-result-2 : tie.Need-overflow-mul-result-2
-mul-result-2 c = omega (arith, mul-le-mul c.before.before.requires.rates c.before.before.requires.kilobytes)
+mul-result-2 : tie.Need-overflow_mul-result-in-Bundle
+mul-result-2 c = omega (arith, mul-le-mul c.requires.rates c.requires.kilobytes)
 
-returns : tie.Need-returns
+returns : tie.Need-returns-in-Prepaid
 unfolding open_bundle
-returns c = simp c.enum_told.given.1
+returns c = simp c.in-Prepaid.is
 
-returns-2 : tie.Need-returns-2
+returns-2 : tie.Need-returns-in-Bundle
 unfolding open_bundle
-returns-2 c = simp c.enum-told2.given.1
+returns-2 c = simp c.in-Bundle.is
 
-returns-3 : tie.Need-returns-3
+returns-3 : tie.Need-returns-in-Unlimited
 unfolding open_bundle
-returns-3 c = simp c.enum-told3.given.1
+returns-3 c = simp c.in-Unlimited.is
 
 pub is_open_spec : {M : Type 1} → statement M
 is_open_spec =

@@ -4,17 +4,17 @@ use borrow.Author.Rules.{rules}
 use Rattle.tariff.proofs.plans.leaves_unused.Statement.{statement}
 use Rattle.tariff.proofs.plans.leaves_unused.Tie as tie
 
-returns : tie.Need-returns
+returns : tie.Need-returns-in-Prepaid
 unfolding unused_empty
-returns c = simp c.before.before.enum_told.given.1
+returns c = simp c.in-Prepaid.is
 
-returns-2 : tie.Need-returns-2
+returns-2 : tie.Need-returns-in-Bundle
 unfolding unused_empty
-returns-2 c = simp c.enum-told2.given.1
+returns-2 c = simp c.in-Bundle.is
 
-returns-3 : tie.Need-returns-3
+returns-3 : tie.Need-returns-in-Unlimited
 unfolding unused_empty
-returns-3 c = simp c.before.before.enum-told3.given.1
+returns-3 c = simp c.in-Unlimited.is
 
 pub leaves_unused_spec : {M : Type 1} → statement M
 leaves_unused_spec =

@@ -7,21 +7,19 @@ use borrow.Author.Rules.{rules}
 use Rattle.tariff.proofs.plans.plan_from.Statement.{statement}
 use Rattle.tariff.proofs.plans.plan_from.Tie as tie
 
-returns : tie.Need-returns
+returns : tie.Need-returns-then-t-gt2
 unfolding plan_of terms_reasons verdict_of
-returns c = simp (lt-ltb _ _ c.if1.true)
+returns c = simp (lt-ltb _ _ c.if-t-gt2.true)
 
-returns-2 : tie.Need-returns-2
+returns-2 : tie.Need-returns-in-Accepted
 unfolding plan_of
 returns-2 c =
-    let made = c.before.before.before in
-    simp (known_form made.before.before.before.args.t made.before.if1.false, ← made.plan_with.ensures, ← c.before.before.check-plan.ensures, c.enum_told.given.1)
+    simp (known_form c.args.t c.if-t-gt2.false, ← c.plan_with-p.ensures, ← c.check_plan-verdict.ensures, c.in-Accepted.is)
 
-returns-3 : tie.Need-returns-3
+returns-3 : tie.Need-returns-in-Refused
 unfolding plan_of
 returns-3 c =
-    let made = c.before.before.before.before in
-    simp (known_form made.before.before.before.args.t made.before.if1.false, ← made.plan_with.ensures, ← c.before.before.before.check-plan.ensures, c.before.verdict.given.1)
+    simp (known_form c.args.t c.if-t-gt2.false, ← c.plan_with-p.ensures, ← c.check_plan-verdict.ensures, c.in-Refused.is)
 
 pub plan_from_spec : {M : Type 1} → statement M
 plan_from_spec =
