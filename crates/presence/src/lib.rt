@@ -68,7 +68,7 @@ enum Column {
 
 // Which services are prevalent over a window of days.
 #[derive(Clone, Copy)]
-struct Prevalent {
+pub struct Prevalent {
     internet: bool,
     calls: bool,
     messages: bool,

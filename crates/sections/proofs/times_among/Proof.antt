@@ -22,7 +22,7 @@ loop-again : tie.Need-loop-i-preserved invariant-loop decreases-loop
 loop-again c =
     let f = c.args.file.now in
     let k = c.args.kind in
-    (omega arith, omega (arith, times_more f k c.loop-i.i, simp c.word_at.ensures at c.one_of_lem.ensures.0), omega arith)
+    (omega arith, omega (arith, times_more f k c.loop-i.i, simp c.word_at.ensures at c.one_of-times.ensures.0), omega arith)
 
 returns : tie.Need-returns invariant-loop decreases-loop
 returns c =

@@ -4,17 +4,17 @@ use borrow.Author.Rules.{rules}
 use Rattle.presence.proofs.days.add_place.Statement.{statement}
 use Rattle.presence.proofs.days.add_place.Tie as tie
 
-returns : tie.Need-returns
+returns : tie.Need-returns-in-Home
 unfolding add_day
-returns c = simp (c.plus.ensures, c.before.enum_told.given.1)
+returns c = simp (c.plus-v.ensures, c.in-Home.is)
 
-returns-2 : tie.Need-returns-2
+returns-2 : tie.Need-returns-in-Zone
 unfolding add_day
-returns-2 c = simp (c.plus2.ensures, c.before.enum-told2.given.1)
+returns-2 c = simp (c.plus-v-in-Zone.ensures, c.in-Zone.is)
 
-returns-3 : tie.Need-returns-3
+returns-3 : tie.Need-returns-in-Elsewhere
 unfolding add_day
-returns-3 c = simp (c.plus3.ensures, c.before.enum-told3.given.1)
+returns-3 c = simp (c.plus-v-in-Elsewhere.ensures, c.in-Elsewhere.is)
 
 pub add_place_spec : {M : Type 1} → statement M
 add_place_spec =

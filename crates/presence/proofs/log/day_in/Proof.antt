@@ -8,7 +8,7 @@ use Rattle.presence.proofs.log.day_in.Tie as tie
 
 returns : tie.Need-returns
 unfolding day_from
-returns c = simp (c.units-at3.ensures, c.before.units-at2.ensures, c.before.before.units_at.ensures, get_or-drop, add_assoc, add-zero)
+returns c = simp (c.units_at-outside.ensures, c.units_at-inzone.ensures, c.units_at-athome.ensures, get_or-drop, add_assoc, add-zero)
 
 pub day_in_spec : {M : Type 1} → statement M
 day_in_spec =

@@ -7,8 +7,8 @@ use Rattle.presence.proofs.log.push.Tie as tie
 
 returns : tie.Need-returns
 unfolding logged_with numbers_of
-returns c = let s = c.before.before.before.before.before.before.shift-days in
-    c.before.before.write-newest.ensures ∙ rw s.ensures.1 refl
+returns c = let s = c.shift_days in
+    c.write_newest.ensures ∙ rw s.ensures.1 refl
 
 pub push_spec : {M : Type 1} → statement M
 push_spec = tie.close (tie.spec (λ c κs. search rules) (λ c κs. search rules) (λ c. search rules) returns)

@@ -7,21 +7,21 @@ use Rattle.presence.proofs.Shift.{Shifted, shift_start, shift_step, shift_end}
 use Rattle.presence.proofs.log.shift_days.Statement.{statement}
 use Rattle.presence.proofs.log.shift_days.Tie as tie
 
-abbrev invariant-loop : tie.invariant-loop
+abbrev invariant-loop : tie.invariant-loop-i
 invariant-loop log₀ i₀ log i = (13 ≤ i) × (i ≤ 1599) × (length log₀ ≡ 1599) × (length log ≡ 1599) × Shifted i log₀ log
 
-abbrev decreases-loop : tie.decreases-loop
+abbrev decreases-loop : tie.decreases-loop-i
 decreases-loop log₀ i₀ log i = i
 
-loop-holds : tie.Need-loop-init invariant-loop decreases-loop
+loop-holds : tie.Need-loop-i-init invariant-loop decreases-loop
 loop-holds c = (omega arith, omega arith, c.requires, c.requires, shift_start _)
 
-loop-again : tie.Need-loop-preserved invariant-loop decreases-loop
-loop-again c = let b = c.before.before in
-    (omega arith, omega arith, b.loop.invariant.2, length-set b.loop.log (b.loop.i - 1) _ ∙ b.loop.invariant.3, shift_step b.loop.i _ b.loop.log (omega arith) (omega arith) b.loop.invariant.3 b.loop.invariant.4)
+loop-again : tie.Need-loop-i-preserved invariant-loop decreases-loop
+loop-again c = 
+    (omega arith, omega arith, c.loop-i.invariant.2, length-set c.loop-i.log (c.loop-i.i - 1) _ ∙ c.loop-i.invariant.3, shift_step c.loop-i.i _ c.loop-i.log (omega arith) (omega arith) c.loop-i.invariant.3 c.loop-i.invariant.4)
 
 returns : tie.Need-returns invariant-loop decreases-loop
-returns c = let l = c.before.loop in
+returns c = let l = c.loop-i in
     let e : l.i ≡ 13 = omega arith in
     (l.invariant.3, shift_end _ l.log l.invariant.2 l.invariant.3 (rw e at l.invariant.4))
 
@@ -40,5 +40,5 @@ shift_days_spec =
     (λ c. omega arith)
     (λ c. omega arith)
     loop-again
-    (λ c. omega (arith, c.before.loop.invariant))
+    (λ c. omega (arith, c.loop-i.invariant))
     returns)

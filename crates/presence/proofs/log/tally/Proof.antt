@@ -9,29 +9,29 @@ use Rattle.presence.proofs.Within.{over_room}
 use Rattle.presence.proofs.log.tally.Statement.{statement}
 use Rattle.presence.proofs.log.tally.Tie as tie
 
-abbrev invariant-loop : tie.invariant-loop
+abbrev invariant-loop : tie.invariant-loop-i
 invariant-loop log n sum₀ i₀ sum i = (i ≤ n) × (n ≤ 123) × UnitsFit n log × (sum ≡ units_over i (days_of log))
 
-abbrev decreases-loop : tie.decreases-loop
+abbrev decreases-loop : tie.decreases-loop-i
 decreases-loop log n sum₀ i₀ sum i = n - i
 
-loop-holds : tie.Need-loop-init invariant-loop decreases-loop
-loop-holds c = (omega arith, omega arith, c.before.requires.1, sym (over_none 0 (days_of c.before.args.log.now) refl))
+loop-holds : tie.Need-loop-i-init invariant-loop decreases-loop
+loop-holds c = (omega arith, omega arith, c.requires.1, sym (over_none 0 (days_of c.args.log.now) refl))
 
-add-day-requires : tie.Need-add-day-requires invariant-loop decreases-loop
-add-day-requires c κs = let b = c.before.before in
-    let a = b.before.before.args in
-    let f = b.loop.invariant in
-    (rw f.3 (over_room b.loop.i a.n a.log.now f.1 f.0 f.2), rw c.day-at.ensures (f.2 b.loop.i (omega arith)))
+add-day-requires : tie.Need-add_day-sum-requires invariant-loop decreases-loop
+add-day-requires c κs = 
+    let a = c.args in
+    let f = c.loop-i.invariant in
+    (rw f.3 (over_room c.loop-i.i a.n a.log.now f.1 f.0 f.2), rw c.day_at.ensures (f.2 c.loop-i.i (omega arith)))
 
-loop-again : tie.Need-loop-preserved invariant-loop decreases-loop
-loop-again c = let b = c.before.before.before in
-    let ds = days_of b.before.before.args.log.now in
-    (omega arith, omega arith, b.loop.invariant.2, c.add_day.ensures ∙ rw (b.loop.invariant.3, c.before.day-at.ensures) (sym (over_next b.loop.i ds)))
+loop-again : tie.Need-loop-i-preserved invariant-loop decreases-loop
+loop-again c = 
+    let ds = days_of c.args.log.now in
+    (omega arith, omega arith, c.loop-i.invariant.2, c.add_day-sum.ensures ∙ rw (c.loop-i.invariant.3, c.day_at.ensures) (sym (over_next c.loop-i.i ds)))
 
 returns : tie.Need-returns invariant-loop decreases-loop
-returns c = let e : c.before.loop.i ≡ c.before.before.before.args.n = omega arith in
-    rw e at c.before.loop.invariant.3
+returns c = let e : c.loop-i.i ≡ c.args.n = omega arith in
+    rw e at c.loop-i.invariant.3
 
 pub tally_spec : {M : Type 1} → statement M
 tally_spec =

@@ -10,8 +10,8 @@ use Rattle.presence.proofs.log.write_newest.Tie as tie
 
 returns : tie.Need-returns
 unfolding numbers_of
-returns c = let d = c.before.before.before.before.before in
-    front d.args.log.now _ _ _ _ _ _ _ _ _ _ _ _ _ d.requires ∙ rw c.marks-of.ensures refl
+returns c = 
+    front c.args.log.now _ _ _ _ _ _ _ _ _ _ _ _ _ c.requires ∙ rw c.marks_of.ensures refl
 
 pub write_newest_spec : {M : Type 1} → statement M
 write_newest_spec =

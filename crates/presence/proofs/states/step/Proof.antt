@@ -4,20 +4,20 @@ use borrow.Author.Rules.{rules}
 use Rattle.presence.proofs.states.step.Statement.{statement}
 use Rattle.presence.proofs.states.step.Tie as tie
 
-returns : tie.Need-returns
-returns c = simp (c.before.enum_told.given.1, c.if1.true)
+returns : tie.Need-returns-then-full-long
+returns c = simp (c.in-Clear.is, c.if-full-long.true)
 
-returns-2 : tie.Need-returns-2
-returns-2 c = simp (c.before.enum_told.given.1, c.if1.false)
+returns-2 : tie.Need-returns-else-full-long
+returns-2 c = simp (c.in-Clear.is, c.if-full-long.false)
 
-returns-3 : tie.Need-returns-3
-returns-3 c = simp (c.before.before.state.given.1, lt-ltb _ _ c.if2.true)
+returns-3 : tie.Need-returns-then-k-lt14
+returns-3 c = simp (c.in-Warned.is, lt-ltb _ _ c.if-k-lt14.true)
 
-returns-4 : tie.Need-returns-4
-returns-4 c = simp (c.before.before.before.state.given.1, le-ltb _ _ c.before.if2.false, c.if3.true)
+returns-4 : tie.Need-returns-then-short
+returns-4 c = simp (c.in-Warned.is, le-ltb _ _ c.if-k-lt14.false, c.if-short.true)
 
-returns-5 : tie.Need-returns-5
-returns-5 c = simp (c.before.before.before.state.given.1, le-ltb _ _ c.before.if2.false, c.if3.false)
+returns-5 : tie.Need-returns-else-short
+returns-5 c = simp (c.in-Warned.is, le-ltb _ _ c.if-k-lt14.false, c.if-short.false)
 
 pub step_spec : {M : Type 1} → statement M
 step_spec =

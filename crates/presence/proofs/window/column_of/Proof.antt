@@ -3,11 +3,11 @@ use borrow.Author.Rules.{rules}
 use Rattle.presence.proofs.window.column_of.Statement.{statement}
 use Rattle.presence.proofs.window.column_of.Tie as tie
 
-returns : tie.Need-returns
-returns c = simp (c.zone-of.ensures, c.before.before.c.given.1)
+returns : tie.Need-returns-in-ZoneUnits
+returns c = simp (c.zone_of.ensures, c.in-ZoneUnits.is)
 
-returns-2 : tie.Need-returns-2
-returns-2 c = simp (c.other-of.ensures, c.before.before.c2.given.1)
+returns-2 : tie.Need-returns-in-OtherUnits
+returns-2 c = simp (c.other_of.ensures, c.in-OtherUnits.is)
 
 pub column_of_spec : {M : Type 1} → statement M
 column_of_spec =

@@ -4,17 +4,17 @@ use borrow.Author.Rules.{rules}
 use Rattle.presence.proofs.window.on_day.Statement.{statement}
 use Rattle.presence.proofs.window.on_day.Tie as tie
 
-returns : tie.Need-returns
+returns : tie.Need-returns-in-HomeDay
 unfolding on_day
-returns c = simp (← c.before.before.day-kind.ensures, c.enum_told.given.1)
+returns c = simp (← c.day_kind-k.ensures, c.in-HomeDay.is)
 
-returns-2 : tie.Need-returns-2
+returns-2 : tie.Need-returns-in-ZoneDay
 unfolding on_day
-returns-2 c = simp (← c.before.before.day-kind.ensures, c.enum-told2.given.1)
+returns-2 c = simp (← c.day_kind-k.ensures, c.in-ZoneDay.is)
 
-returns-3 : tie.Need-returns-3
+returns-3 : tie.Need-returns-in-OffDay
 unfolding on_day
-returns-3 c = simp (← c.before.before.day-kind.ensures, c.enum-told3.given.1)
+returns-3 c = simp (← c.day_kind-k.ensures, c.in-OffDay.is)
 
 pub on_day_spec : {M : Type 1} → statement M
 on_day_spec =

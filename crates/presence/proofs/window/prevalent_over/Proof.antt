@@ -12,32 +12,30 @@ use Rattle.presence.proofs.window.prevalent_over.Statement.{statement}
 use Rattle.presence.proofs.window.prevalent_over.Tie as tie
 
 -- both counts are those of the log's days
-counts : (c : tie.After-on-days) → let a = c.before.before.before.before.before.before.args in
-    (c.before.before.zone-days.result ≡ sum_days zone_day a.w (days_of a.log.now)) × (c.on-days.result ≡ sum_days on_day a.w (days_of a.log.now))
-counts c = let m = c.before.before.before.before.last-marks in
-    let d = c.before.before.before.before.before.before in
-    let xs = d.args.log.now in
-    (c.before.before.zone-days.ensures ∙ zone_marked d.args.w xs m.result d.requires.0 m.ensures, c.on-days.ensures ∙ on_marked d.args.w xs m.result d.requires.0 m.ensures)
+counts : (c : tie.After-on_days-on) → let a = c.args in
+    (c.zone_days-zone.result ≡ sum_days zone_day a.w (days_of a.log.now)) × (c.on_days-on.result ≡ sum_days on_day a.w (days_of a.log.now))
+counts c = let m = c.last_marks-xs in
+    let xs = c.args.log.now in
+    (c.zone_days-zone.ensures ∙ zone_marked c.args.w xs m.result c.requires.0 m.ensures, c.on_days-on.ensures ∙ on_marked c.args.w xs m.result c.requires.0 m.ensures)
 
-mul_if1 : tie.Need-overflow-mul-if1
-mul_if1 c = let d = c.before.before.before.before.before.before in
-    let ds = days_of d.args.log.now in
-    omega (arith, (counts c).0, zone_days_counted d.args.w ds, d.requires.0)
+mul_if1 : tie.Need-overflow_mul-zone
+mul_if1 c = 
+    let ds = days_of c.args.log.now in
+    omega (arith, (counts c).0, zone_days_counted c.args.w ds, c.requires.0)
 
-returns : tie.Need-returns
-returns c = let b = c.before in
-    let a = b.before.before.before.before.before.before.args in
+returns : tie.Need-returns-then-zone-on
+returns c = 
+    let a = c.args in
     let ds = days_of a.log.now in
-    let few : 2 * sum_days zone_day a.w ds ≤ sum_days on_day a.w ds = omega (arith, counts b, c.if1.true) in
+    let few : 2 * sum_days zone_day a.w ds ≤ sum_days on_day a.w ds = omega (arith, counts c.before, c.if-zone-on.true) in
     simp (le-ltb _ _ few)
 
-returns-2 : tie.Need-returns-2
-returns-2 c = let e = c.before.before.before.before.before.before in
-    let b = e.before in
-    let a = b.before.before.before.before.before.before.args in
+returns-2 : tie.Need-returns
+returns-2 c = 
+    let a = c.args in
     let ds = days_of a.log.now in
-    let most : sum_days on_day a.w ds < 2 * sum_days zone_day a.w ds = omega (arith, counts b, e.if1.false) in
-    simp (c.zone-exceeds3.ensures.0, c.before.before.zone-exceeds2.ensures.0, c.before.before.before.before.zone-exceeds.ensures.0, lt-ltb _ _ most)
+    let most : sum_days on_day a.w ds < 2 * sum_days zone_day a.w ds = omega (arith, counts c.before.before.before.before.before.before.before, c.if-zone-on.false) in
+    simp (c.zone_exceeds-messages.ensures.0, c.zone_exceeds-calls.ensures.0, c.zone_exceeds-internet.ensures.0, lt-ltb _ _ most)
 
 pub prevalent_over_spec : {M : Type 1} → statement M
 prevalent_over_spec =

@@ -4,7 +4,7 @@ use Rattle.presence.proofs.window.zone_exceeds.Statement.{statement}
 use Rattle.presence.proofs.window.zone_exceeds.Tie as tie
 
 returns : tie.Need-returns
-returns c = (simp (c.units-sum2.ensures.0, c.before.before.units-sum.ensures.0), c.units-sum2.ensures.1)
+returns c = (simp (c.units_sum-other.ensures.0, c.units_sum-zone.ensures.0), c.units_sum-other.ensures.1)
 
 pub zone_exceeds_spec : {M : Type 1} → statement M
 zone_exceeds_spec = tie.close (tie.spec (λ c κs. search rules) (λ c κs. search rules) returns)

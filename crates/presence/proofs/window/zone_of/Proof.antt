@@ -5,4 +5,4 @@ use Rattle.presence.proofs.window.zone_of.Tie as tie
 
 pub zone_of_spec : {M : Type 1} → statement M
 zone_of_spec =
-    tie.close (tie.spec (λ c. search rules) (λ c. search rules) (λ c. search rules) (λ c. search rules) (λ c. search rules) (λ c. simp c.before.enum-told2.given.1) (λ c. search rules))
+    tie.close (tie.spec (λ c. search rules) (λ c. search rules) (λ c. search rules) (λ c. search rules) (λ c. search rules) (λ c. simp c.in-CallService.is) (λ c. search rules))
