@@ -10,7 +10,7 @@ returns c = simp c.in-Nowhere.is
 
 returns-2 : tie.Need-returns-in-At
 unfolding mark_day
-returns-2 c = simp (c.mark_place.ensures, c.known_told-1.given.1, c.in-At.is)
+returns-2 c = simp (c.mark_place.ensures, c.in-At.is)
 
 pub marked_spec : {M : Type 1} → statement M
 marked_spec = tie.close (tie.spec (λ c. search rules) (λ c. search rules) (λ c κs. search rules) returns returns-2)
