@@ -1,5 +1,7 @@
 // All of the account but its log, and what each call makes of it (account-2, sound-1 to sound-11, limit-1 to limit-7,
 // register-1, register-2, topup-1, topup-2, use-1 to use-15, day-3, refusal-3 to refusal-9).
+#![tactic(auto)]
+
 pub mod charging;
 pub mod choice;
 pub mod claims;

@@ -5,7 +5,7 @@ use Rattle.state.proofs.charging.billable_of.Statement.{statement}
 use Rattle.state.proofs.charging.billable_of.Tie as tie
 
 returns : tie.Need-returns
-returns c = simp (c.pick-units.ensures, c.before.bears-home-price.ensures) (billable_is _ _)
+returns c = simp (c.pick_units.ensures, c.bears_home_price.ensures) (billable_is _ _)
 
 pub billable_of_spec : {M : Type 1} → statement M
 billable_of_spec = tie.close (tie.spec (λ c κs. search rules) (λ c κs. search rules) returns)

@@ -10,13 +10,13 @@ use Rattle.state.proofs.charging.charge_on.Tie as tie
 charges : (c : tie.Start) → Grown c.args.a c.args.b
 charges c = rw c.requires.bill_is (grown c.args.a c.args.c c.requires.steady c.requires.ready)
 
-add_notice_at : tie.Need-overflow-add-notice-at
-add_notice_at c = let d = c.before.before.before in
-    omega (arith, zone_is d.requires, counted_in d.args.a d.args.c d.requires.ready)
+add_notice_at : tie.Need-overflow_add-a
+add_notice_at c = 
+    omega (arith, zone_is c.requires, counted_in c.args.a c.args.c c.requires.ready)
 
 returns : tie.Need-returns
 unfolding charge_of bill_of
-returns c = simp (c.before.before.before.before.amount2.ensures, c.before.before.before.before.before.amount.ensures, c.before.before.before.before.before.before.notice-at.ensures, c.before.before.before.before.before.before.before.before.before.before.requires.bill_is)
+returns c = simp (c.amount-charged.ensures, c.amount-surcharged.ensures, c.notice_at-notice.ensures, c.requires.bill_is)
 
 pub charge_on_spec : {M : Type 1} → statement M
 charge_on_spec =
@@ -26,6 +26,6 @@ charge_on_spec =
     (λ c κs. search rules)
     (λ c κs. search rules)
     (λ c κs. search rules)
-    (λ c. omega (arith, charges c.before.before.before.before.before.before.before.before))
-    (λ c. omega (arith, charges c.before.before.before.before.before.before.before.before.before.before))
+    (λ c. omega (arith, charges c.before.before.before.before.before.before.before.before.before))
+    (λ c. omega (arith, charges c.before.before.before.before.before.before.before.before.before.before.before))
     returns)

@@ -4,21 +4,21 @@ use borrow.Author.Rules.{rules}
 use Rattle.state.proofs.charging.charged_as.Statement.{statement}
 use Rattle.state.proofs.charging.charged_as.Tie as tie
 
-returns : tie.Need-returns
+returns : tie.Need-returns-in-Data
 unfolding charged_as
-returns c = simp c.enum_told.given.1
+returns c = simp c.in-Data.is
 
-returns-2 : tie.Need-returns-2
+returns-2 : tie.Need-returns-in-Outgoing
 unfolding charged_as
-returns-2 c = simp (c.pick.ensures, c.before.greater.ensures, c.before.before.enum-told2.given.1, c.before.before.before.before.zone-at.ensures)
+returns-2 c = simp (c.pick.ensures, c.greater.ensures, c.in-Outgoing.is, c.zone_at-zone.ensures)
 
-returns-3 : tie.Need-returns-3
+returns-3 : tie.Need-returns-in-Incoming
 unfolding charged_as
-returns-3 c = simp c.enum-told3.given.1
+returns-3 c = simp c.in-Incoming.is
 
-returns-4 : tie.Need-returns-4
+returns-4 : tie.Need-returns-in-Sms
 unfolding charged_as
-returns-4 c = simp c.enum-told4.given.1
+returns-4 c = simp c.in-Sms.is
 
 pub charged_as_spec : {M : Type 1} → statement M
 charged_as_spec =

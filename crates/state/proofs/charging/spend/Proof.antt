@@ -12,43 +12,37 @@ use Rattle.state.proofs.charging.spend.Tie as tie
 charges : (c : tie.Start) → Grown c.args.a c.args.b
 charges c = rw c.requires.0.bill_is (grown c.args.a c.args.c c.requires.0.steady c.requires.0.ready)
 
-plus-requires : tie.Need-plus-requires
+plus-requires : tie.Need-plus-lifetime-requires
 plus-requires c κs = omega (arith, c.requires.1)
 
-plus-requires-2 : tie.Need-plus-requires-2
-plus-requires-2 c κs = rw c.before.requires.0.bill_is (unfold bill_of in surcharged_sum _ _ c.before.requires.0.ready)
+plus-requires-2 : tie.Need-plus-surcharged-requires
+plus-requires-2 c κs = rw c.requires.0.bill_is (unfold bill_of in surcharged_sum _ _ c.requires.0.ready)
 
-added-requires : tie.Need-added-requires
+added-requires : tie.Need-added-today-requires
 added-requires c κs =
-    let d = c.before.before.before in
-    rw c.marked.ensures (today_sum d.args.a d.args.u d.requires.0.steady d.requires.1)
+    rw c.marked.ensures (today_sum c.args.a c.args.u c.requires.0.steady c.requires.1)
 
-add_monthly : tie.Need-overflow-add-monthly
+add_monthly : tie.Need-overflow_add-monthly
 add_monthly c =
-    let d = c.before.before.before.before.before.before.before.before in
-    omega (arith, counted_is d.requires.0, counted_in d.args.a d.args.c d.requires.0.ready)
+    omega (arith, counted_is c.requires.0, counted_in c.args.a c.args.c c.requires.0.ready)
 
-add_roamed : tie.Need-overflow-add-roamed
+add_roamed : tie.Need-overflow_add-roamed
 add_roamed c =
-    let d = c.before.before.before.before.before.before.before.before.before.before in
-    omega (arith, zone_is d.requires.0, counted_in d.args.a d.args.c d.requires.0.ready)
+    omega (arith, zone_is c.requires.0, counted_in c.args.a c.args.c c.requires.0.ready)
 
-add_chargedseconds : tie.Need-overflow-add-chargedseconds
+add_chargedseconds : tie.Need-overflow_add-chargedseconds
 add_chargedseconds c =
-    let d = c.before.before.before.before.before.before.before.before.before.before.before.before in
-    omega (arith, d.requires.0.ready.room)
+    omega (arith, c.requires.0.ready.room)
 
-sub_credit_3 : tie.Need-overflow-sub-credit-3
+sub_credit_3 : tie.Need-overflow_sub-credit-3
 sub_credit_3 c =
-    let d = c.before.before.before.before.before.before.before.before.before.before.before.before.before.before.before.before.before in
-    let e : (d.args.b.home - d.args.a.money.homecharges) + (d.args.b.extra - d.args.a.money.surcharges) ≡ cost d.args.a d.args.c = rw d.requires.0.bill_is (sym (cost_is d.args.a d.args.c)) in
-    omega (arith, e, d.requires.0.affordable)
+    let e : (c.args.b.home - c.args.a.money.homecharges) + (c.args.b.extra - c.args.a.money.surcharges) ≡ cost c.args.a c.args.c = rw c.requires.0.bill_is (sym (cost_is c.args.a c.args.c)) in
+    omega (arith, e, c.requires.0.affordable)
 
 returns : tie.Need-returns
 unfolding spent cost bill_of
 returns c =
-    let d = c.before.before.before.before.before.before.before.before.before.before.before.before.before.before.before.before.before.before in
-    simp (d.added.ensures, d.before.marked.ensures, d.before.before.plus2.ensures, d.before.before.before.plus.ensures, d.before.before.before.before.requires.0.bill_is)
+    simp (c.added-today.ensures, c.marked.ensures, c.plus-surcharged.ensures, c.plus-lifetime.ensures, c.requires.0.bill_is)
 
 pub spend_spec : {M : Type 1} → statement M
 spend_spec =
@@ -61,8 +55,8 @@ spend_spec =
     add_monthly
     add_roamed
     add_chargedseconds
-    (λ c. omega (arith, charges c.before.before.before.before.before.before.before.before.before.before.before.before.before.before))
-    (λ c. omega (arith, charges c.before.before.before.before.before.before.before.before.before.before.before.before.before.before.before.before))
-    (λ c. omega (arith, charges c.before.before.before.before.before.before.before.before.before.before.before.before.before.before.before.before))
+    (λ c. omega (arith, charges c.before.before.before.before.before.before.before.before.before.before.before.before.before.before.before.before.before.before))
+    (λ c. omega (arith, charges c.before.before.before.before.before.before.before.before.before.before.before.before.before.before.before.before.before.before.before.before))
+    (λ c. omega (arith, charges c.before.before.before.before.before.before.before.before.before.before.before.before.before.before.before.before.before.before.before.before))
     sub_credit_3
     returns)

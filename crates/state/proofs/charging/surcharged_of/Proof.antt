@@ -7,8 +7,7 @@ use Rattle.state.proofs.charging.surcharged_of.Tie as tie
 returns : tie.Need-returns
 unfolding surcharged_units
 returns c =
-    let d = c.before.before in
-    simp (c.surcharged-part4.ensures, c.before.surcharged-part3.ensures, d.surcharged-part2.ensures, d.before.surcharged-part.ensures, d.before.before.past-allowance.ensures)
+    simp (c.surcharged_part-sms.ensures, c.surcharged_part-incoming.ensures, c.surcharged_part-outgoing.ensures, c.surcharged_part-kb.ensures, c.past_allowance-past.ensures)
 
 pub surcharged_of_spec : {M : Type 1} → statement M
 surcharged_of_spec =

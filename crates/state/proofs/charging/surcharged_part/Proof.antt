@@ -4,17 +4,17 @@ use borrow.Author.Rules.{rules}
 use Rattle.state.proofs.charging.surcharged_part.Statement.{statement}
 use Rattle.state.proofs.charging.surcharged_part.Tie as tie
 
-returns : tie.Need-returns
+returns : tie.Need-returns-in-Clear
 unfolding surcharged_of
-returns c = simp c.enum_told.given.1
+returns c = simp c.in-Clear.is
 
-returns-2 : tie.Need-returns-2
+returns-2 : tie.Need-returns-in-Warned
 unfolding surcharged_of
-returns-2 c = simp c.enum-told2.given.1
+returns-2 c = simp c.in-Warned.is
 
-returns-3 : tie.Need-returns-3
+returns-3 : tie.Need-returns-in-Surcharged
 unfolding surcharged_of
-returns-3 c = simp c.enum-told3.given.1
+returns-3 c = simp c.in-Surcharged.is
 
 pub surcharged_part_spec : {M : Type 1} → statement M
 surcharged_part_spec =

@@ -6,7 +6,6 @@ use Rattle.state.specs.Reasons.{overfills}
 use Rattle.state.specs.Needs.{bill_of, Ready, Spends}
 use Rattle.state.proofs.Billing.{Grown, grown, cost_is}
 use Rattle.state.proofs.Verdicts.{used_3, used_4, used_5, used_6, used_yes, ready, lifetime_room, few}
-use borrow.Author.Tests.{not-true, not-false}
 use Prim.Native.Nat.{◌+◌, ◌-◌}
 use mathlib.Core.Bool.{true, false}
 use mathlib.Core.Path.{◌≡◌, sym, ◌∙◌, ap}
@@ -15,86 +14,80 @@ use borrow.Author.Rules.{rules}
 use Rattle.state.proofs.charging.use_of.Statement.{statement}
 use Rattle.state.proofs.charging.use_of.Tie as tie
 
-somewhere : (c : tie.Else1) → is_placed c.before.before.args.a.place ≡ true
-somewhere c = sym c.before.placed.ensures ∙ not-false c.before.placed.result c.if1.false
+somewhere : (c : tie.Else-not-placed) → is_placed c.args.a.place ≡ true
+somewhere c = sym c.placed.ensures ∙ c.if-not-placed.false
 
-in_range : (c : tie.Else2) → between 1 c.before.before.before.before.args.n 1000000000 ≡ true
-in_range c = sym c.before.within.ensures ∙ not-false c.before.within.result c.if2.false
+in_range : (c : tie.Else-not-within) → between 1 c.args.n 1000000000 ≡ true
+in_range c = sym c.within.ensures ∙ c.if-not-within.false
 
-in_room : (c : tie.Else3) → overfills c.before.before.before.before.before.before.args.a c.before.before.before.before.before.before.args.k c.before.before.before.before.before.before.args.n ≡ false
-in_room c = sym c.before.overfills.ensures ∙ c.if3.false
+in_room : (c : tie.Else-overfills) → overfills c.args.a c.args.k c.args.n ≡ false
+in_room c = sym c.overfills.ensures ∙ c.if-overfills.false
 
-is_ready : (c : tie.Else3) → Ready c.before.before.before.before.before.before.args.a (charged_units c.before.before.before.before.before.before.args.a.place c.before.before.before.before.before.before.args.k c.before.before.before.before.before.before.args.n)
+is_ready : (c : tie.Else-overfills) → Ready c.args.a (charged_units c.args.a.place c.args.k c.args.n)
 is_ready c =
-    let d = c.before.before.before.before.before.before in
-    ready d.args.a d.args.k d.args.n d.requires.counters (few _ _ (in_range c.before.before)) (in_room c)
+    ready c.args.a c.args.k c.args.n c.requires.counters (few _ _ (in_range c.before.before)) (in_room c)
 
-bill_eq : (c : tie.After-work-out) → c.work-out.result ≡ bill_of c.before.before.before.before.before.before.before.before.args.a (charged_units c.before.before.before.before.before.before.before.before.args.a.place c.before.before.before.before.before.before.before.before.args.k c.before.before.before.before.before.before.before.before.args.n)
-bill_eq c = c.work-out.ensures ∙ ap (bill_of c.before.before.before.before.before.before.before.before.args.a) c.before.charged_units.ensures
+bill_eq : (c : tie.After-work_out-b) → c.work_out-b.result ≡ bill_of c.args.a (charged_units c.args.a.place c.args.k c.args.n)
+bill_eq c = c.work_out-b.ensures ∙ ap (bill_of c.args.a) c.charged_units-c.ensures
 
-charges : (c : tie.After-work-out) → Grown c.before.before.before.before.before.before.before.before.args.a c.work-out.result
+charges : (c : tie.After-work_out-b) → Grown c.args.a c.work_out-b.result
 charges c =
-    let d = c.before.before.before.before.before.before.before.before in
-    rw (bill_eq c) (grown d.args.a (charged_units d.args.a.place d.args.k d.args.n) d.requires (is_ready c.before.before))
+    rw (bill_eq c) (grown c.args.a (charged_units c.args.a.place c.args.k c.args.n) c.requires (is_ready c.before.before))
 
-cost_eq : (c : tie.After-work-out) → (c.work-out.result.home - c.before.before.before.before.before.before.before.before.args.a.money.homecharges) + (c.work-out.result.extra - c.before.before.before.before.before.before.before.before.args.a.money.surcharges) ≡ cost c.before.before.before.before.before.before.before.before.args.a (charged_units c.before.before.before.before.before.before.before.before.args.a.place c.before.before.before.before.before.before.before.before.args.k c.before.before.before.before.before.before.before.before.args.n)
+cost_eq : (c : tie.After-work_out-b) → (c.work_out-b.result.home - c.args.a.money.homecharges) + (c.work_out-b.result.extra - c.args.a.money.surcharges) ≡ cost c.args.a (charged_units c.args.a.place c.args.k c.args.n)
 cost_eq c =
-    let d = c.before.before.before.before.before.before.before.before in
-    rw (bill_eq c) (sym (cost_is d.args.a (charged_units d.args.a.place d.args.k d.args.n)))
+    rw (bill_eq c) (sym (cost_is c.args.a (charged_units c.args.a.place c.args.k c.args.n)))
 
-spends : (c : tie.Else4) → Spends c.before.before.before.before.before.before.before.before.before.before.before.before.before.before.args.a c.before.before.before.before.before.before.before.charged_units.result c.before.before.before.before.before.before.work-out.result
+spends : (c : tie.Else-b-a) → Spends c.args.a c.charged_units-c.result c.work_out-b.result
 spends c =
-    let d = c.before.before.before.before.before.before in
-    let e = d.before.charged_units.ensures in
+    let e = c.charged_units-c.ensures in
     record {
-      steady = d.before.before.before.before.before.before.before.before.requires;
-      ready = rw e (is_ready d.before.before);
-      bill_is = d.work-out.ensures;
-      affordable = rw e (omega (arith, cost_eq d, c.if4.false));
+      steady = c.requires;
+      ready = rw e (is_ready c.before.before.before.before.before.before.before.before);
+      bill_is = c.work_out-b.ensures;
+      affordable = rw e (omega (arith, cost_eq c.before.before.before.before.before.before, c.if-b-a.false));
     }
 
-returns : tie.Need-returns
-returns c = used_3 c.before.before.args.a c.before.before.args.k c.before.before.args.n (sym c.before.placed.ensures ∙ not-true c.before.placed.result c.if1.true)
+returns : tie.Need-returns-then-not-placed
+returns c = used_3 c.args.a c.args.k c.args.n (sym c.placed.ensures ∙ c.if-not-placed.true)
 
-returns-2 : tie.Need-returns-2
-returns-2 c = used_4 c.before.before.before.before.args.a c.before.before.before.before.args.k c.before.before.before.before.args.n (somewhere c.before.before) (sym c.before.within.ensures ∙ not-true c.before.within.result c.if2.true)
+returns-2 : tie.Need-returns-then-not-within
+returns-2 c = used_4 c.args.a c.args.k c.args.n (somewhere c.before.before) (sym c.within.ensures ∙ c.if-not-within.true)
 
 overfills-requires : tie.Need-overfills-requires
-overfills-requires c κs = (c.before.before.before.before.requires.counters, few _ _ (in_range c))
+overfills-requires c κs = (c.requires.counters, few _ _ (in_range c))
 
-returns-3 : tie.Need-returns-3
+returns-3 : tie.Need-returns-then-overfills
 returns-3 c =
-    let d = c.before.before.before.before.before.before in
-    used_5 d.args.a d.args.k d.args.n (somewhere c.before.before.before.before) (in_range c.before.before) (sym c.before.overfills.ensures ∙ c.if3.true)
+    used_5 c.args.a c.args.k c.args.n (somewhere c.before.before.before.before) (in_range c.before.before) (sym c.overfills.ensures ∙ c.if-overfills.true)
 
-work-out-requires : tie.Need-work-out-requires
-work-out-requires c κs = rw c.charged_units.ensures (is_ready c.before)
+work-out-requires : tie.Need-work_out-b-requires
+work-out-requires c κs = rw c.charged_units-c.ensures (is_ready c.before)
 
-sub_if4 : tie.Need-overflow-sub-if4
+sub_if4 : tie.Need-overflow_sub-b
 sub_if4 c = omega (arith, charges c.before.before)
 
-sub_if4_2 : tie.Need-overflow-sub-if4-2
+sub_if4_2 : tie.Need-overflow_sub-b-2
 sub_if4_2 c = omega (arith, charges c.before.before.before.before)
 
-add_if4 : tie.Need-overflow-add-if4
+add_if4 : tie.Need-overflow_add-b
 add_if4 c = omega (arith, charges c.before.before.before.before)
 
-returns-4 : tie.Need-returns-4
+returns-4 : tie.Need-returns-then-b-a
 returns-4 c =
-    let d = c.before.before.before.before.before.before.before.before.before.before.before.before.before.before in
-    used_6 d.args.a d.args.k d.args.n (somewhere c.before.before.before.before.before.before.before.before.before.before.before.before) (in_range c.before.before.before.before.before.before.before.before.before.before) (in_room c.before.before.before.before.before.before.before.before) (omega (arith, cost_eq c.before.before.before.before.before.before, c.if4.true))
+    used_6 c.args.a c.args.k c.args.n (somewhere c.before.before.before.before.before.before.before.before.before.before.before.before) (in_range c.before.before.before.before.before.before.before.before.before.before) (in_room c.before.before.before.before.before.before.before.before) (omega (arith, cost_eq c.before.before.before.before.before.before, c.if-b-a.true))
 
-charge-on-requires : tie.Need-charge-on-requires
+charge-on-requires : tie.Need-charge_on-charge-requires
 charge-on-requires c κs = spends c
 
-spend-requires : tie.Need-spend-requires
-spend-requires c κs = let d = c.before.before.before.before.before.before.before.before.before.before.before.before.before.before.before.before in
-    (spends c.before.before, rw c.Only-of.ensures (lifetime_room d.args.a d.args.k d.args.n d.requires.counters (in_room c.before.before.before.before.before.before.before.before.before.before)))
+spend-requires : tie.Need-spend-next-requires
+spend-requires c κs = 
+    (spends c.before.before, rw c.only_of-u.ensures (lifetime_room c.args.a c.args.k c.args.n c.requires.counters (in_room c.before.before.before.before.before.before.before.before.before.before)))
 
-returns-5 : tie.Need-returns-5
-returns-5 c = let d = c.before.before.before.before.before.before.before.before.before.before.before.before.before.before.before.before.before in
-    simp (c.spend.ensures, c.before.Only-of.ensures, c.before.before.charge-on.ensures, c.before.before.before.before.before.before.before.before.before.before.charged_units.ensures)
-    (used_yes d.args.a d.args.k d.args.n (somewhere c.before.before.before.before.before.before.before.before.before.before.before.before.before.before.before) (in_range c.before.before.before.before.before.before.before.before.before.before.before.before.before) (in_room c.before.before.before.before.before.before.before.before.before.before.before) (omega (arith, cost_eq c.before.before.before.before.before.before.before.before.before, c.before.before.before.if4.false)))
+returns-5 : tie.Need-returns
+returns-5 c = 
+    simp (c.spend-next.ensures, c.only_of-u.ensures, c.charge_on-charge.ensures, c.charged_units-c.ensures)
+    (used_yes c.args.a c.args.k c.args.n (somewhere c.before.before.before.before.before.before.before.before.before.before.before.before.before.before.before) (in_range c.before.before.before.before.before.before.before.before.before.before.before.before.before) (in_room c.before.before.before.before.before.before.before.before.before.before.before) (omega (arith, cost_eq c.before.before.before.before.before.before.before.before.before, c.if-b-a.false)))
 
 pub use_of_spec : {M : Type 1} → statement M
 use_of_spec =

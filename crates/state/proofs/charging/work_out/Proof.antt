@@ -10,45 +10,44 @@ use borrow.Author.Rules.{rules}
 use Rattle.state.proofs.charging.work_out.Statement.{statement}
 use Rattle.state.proofs.charging.work_out.Tie as tie
 
-billed_part : (c : tie.After-billed-units) → c.billed_units.result ≡ billed_of c.before.before.before.before.before.before.args.a.plan c.before.before.before.before.before.before.args.a.quota.monthly (billable c.before.before.before.before.before.before.args.a.place c.before.before.before.before.before.before.args.c)
-billed_part c = c.billed_units.ensures ∙ ap (billed_of c.before.before.before.before.before.before.args.a.plan c.before.before.before.before.before.before.args.a.quota.monthly) c.before.before.billable-of.ensures
+billed_part : (c : tie.After-billed_units) → c.billed_units.result ≡ billed_of c.args.a.plan c.args.a.quota.monthly (billable c.args.a.place c.args.c)
+billed_part c = c.billed_units.ensures ∙ ap (billed_of c.args.a.plan c.args.a.quota.monthly) c.billable_of-borne.ensures
 
-billed_eq : (c : tie.After-plus) → c.plus.result ≡ billed_after c.before.before.before.before.before.before.before.args.a c.before.before.before.before.before.before.before.args.c
+billed_eq : (c : tie.After-plus-billed) → c.plus-billed.result ≡ billed_after c.args.a c.args.c
 unfolding billed_after
-billed_eq c = c.plus.ensures ∙ ap (λ (x : Units). c.before.before.before.before.before.before.before.args.a.meters.billed ⊕ x) (billed_part c.before)
+billed_eq c = c.plus-billed.ensures ∙ ap (λ (x : Units). c.args.a.meters.billed ⊕ x) (billed_part c.before)
 
-fresh_eq : (c : tie.After-surcharged-of) → c.surcharged_of.result ≡ newly_surcharged c.before.before.before.before.before.before.before.before.args.a c.before.before.before.before.before.before.before.before.args.c
+fresh_eq : (c : tie.After-surcharged_of-fresh) → c.surcharged_of-fresh.result ≡ newly_surcharged c.args.a c.args.c
 unfolding newly_surcharged
 fresh_eq c =
-    let d = c.before.before.before.before.before.before.before.before in
-    c.surcharged_of.ensures ∙ ap (surcharged_units d.args.a.services d.args.a.quota.allowance d.args.a.quota.roamed) c.before.before.before.roaming-of.ensures
+    c.surcharged_of-fresh.ensures ∙ ap (surcharged_units c.args.a.services c.args.a.quota.allowance c.args.a.quota.roamed) c.roaming_of-zone.ensures
 
-times_eq : (c : tie.After-times) → c.times.result ≡ caps_on built_in c.before.before.before.before.before.before.before.before.before.before.args.a.day ⊗ newly_surcharged c.before.before.before.before.before.before.before.before.before.before.args.a c.before.before.before.before.before.before.before.before.before.before.args.c
-times_eq c = c.times.ensures ∙ ap₂ ◌⊗◌ c.before.caps-of.ensures (fresh_eq c.before.before)
+times_eq : (c : tie.After-times) → c.times.result ≡ caps_on built_in c.args.a.day ⊗ newly_surcharged c.args.a c.args.c
+times_eq c = c.times.ensures ∙ ap₂ ◌⊗◌ c.caps_of.ensures (fresh_eq c.before.before.before)
 
-basis_eq : (c : tie.After-plus2) → c.plus2.result ≡ basis_after c.before.before.before.before.before.before.before.before.before.before.before.args.a c.before.before.before.before.before.before.before.before.before.before.before.args.c
+basis_eq : (c : tie.After-plus-basis) → c.plus-basis.result ≡ basis_after c.args.a c.args.c
 unfolding basis_after
-basis_eq c = c.plus2.ensures ∙ ap (λ (x : Units). c.before.before.before.before.before.before.before.before.before.before.before.args.a.meters.basis ⊕ x) (times_eq c.before)
+basis_eq c = c.plus-basis.ensures ∙ ap (λ (x : Units). c.args.a.meters.basis ⊕ x) (times_eq c.before)
 
-plus-requires : tie.Need-plus-requires
-plus-requires c κs = rw (billed_part c) (billed_sum _ _ c.before.before.before.before.before.before.requires)
+plus-requires : tie.Need-plus-billed-requires
+plus-requires c κs = rw (billed_part c) (billed_sum _ _ c.requires)
 
 times-requires : tie.Need-times-requires
-times-requires c κs = rw (c.caps-of.ensures, fresh_eq c.before) (basis_product _ _ c.before.before.before.before.before.before.before.before.before.requires)
+times-requires c κs = rw (c.caps_of.ensures, fresh_eq c.before.before) (basis_product _ _ c.requires)
 
-plus-requires-2 : tie.Need-plus-requires-2
-plus-requires-2 c κs = rw (times_eq c) (basis_sum _ _ c.before.before.before.before.before.before.before.before.before.before.requires)
+plus-requires-2 : tie.Need-plus-basis-requires
+plus-requires-2 c κs = rw (times_eq c) (basis_sum _ _ c.requires)
 
-home-of-requires : tie.Need-home-of-requires
-home-of-requires c κs = rw (billed_eq c.before.before.before.before) (price_fits _ _ c.before.before.before.before.before.before.before.before.before.before.before.requires)
+home-of-requires : tie.Need-home_of-home-requires
+home-of-requires c κs = rw (billed_eq c.before.before.before.before.before) (price_fits _ _ c.requires)
 
-surcharges-from-requires : tie.Need-surcharges-from-requires
-surcharges-from-requires c κs = rw (basis_eq c.before) (basis_fits _ _ c.before.before.before.before.before.before.before.before.before.before.before.before.requires)
+surcharges-from-requires : tie.Need-surcharges_from-extra-requires
+surcharges-from-requires c κs = rw (basis_eq c.before) (basis_fits _ _ c.requires)
 
 returns : tie.Need-returns
 unfolding bill_of home_after extra_after
-returns c = let d = c.before in
-    simp (c.Counted-of.ensures, d.surcharges-from.ensures, d.before.Home-of.ensures, basis_eq d.before.before, fresh_eq d.before.before.before.before.before, billed_eq d.before.before.before.before.before.before, d.before.before.before.before.before.before.before.before.roaming-of.ensures, d.before.before.before.before.before.before.before.before.before.billable-of.ensures)
+returns c = 
+    simp (c.counted_of-counted.ensures, c.surcharges_from-extra.ensures, c.home_of-home.ensures, basis_eq c.before.before.before, fresh_eq c.before.before.before.before.before.before.before, billed_eq c.before.before.before.before.before.before.before.before, c.roaming_of-zone.ensures, c.billable_of-borne.ensures)
 
 pub work_out_spec : {M : Type 1} → statement M
 work_out_spec =

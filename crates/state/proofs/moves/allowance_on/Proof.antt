@@ -4,8 +4,8 @@ use borrow.Author.Rules.{rules}
 use Rattle.state.proofs.moves.allowance_on.Statement.{statement}
 use Rattle.state.proofs.moves.allowance_on.Tie as tie
 
-allowance-from-requires : tie.Need-allowance-from-requires
-allowance-from-requires c κs = record { money = c.before.requires; rate = rw c.caps-of.ensures (caps_bound c.before.args.day).some.kb }
+allowance-from-requires : tie.Need-allowance_from-requires
+allowance-from-requires c κs = record { money = c.requires; rate = rw c.caps_of-caps.ensures (caps_bound c.args.day).some.kb }
 
 pub allowance_on_spec : {M : Type 1} → statement M
-allowance_on_spec = tie.close (tie.spec (λ c κs. search rules) allowance-from-requires (λ c. simp (c.allowance_from.ensures, c.before.caps-of.ensures)))
+allowance_on_spec = tie.close (tie.spec (λ c κs. search rules) allowance-from-requires (λ c. simp (c.allowance_from.ensures, c.caps_of-caps.ensures)))

@@ -8,24 +8,23 @@ use borrow.Author.Rules.{rules}
 use Rattle.state.proofs.moves.next_from.Statement.{statement}
 use Rattle.state.proofs.moves.next_from.Tie as tie
 
-add_least : tie.Need-overflow-add-least
-add_least c = let d = c.before.before.before.before.before in
-    let f = counters_tell d.args.a d.requires.0.counters in omega (arith, f.logged_ok)
+add_least : tie.Need-overflow_add-a
+add_least c = 
+    let f = counters_tell c.args.a c.requires.0.counters in omega (arith, f.logged_ok)
 
-services-next-requires : tie.Need-services-next-requires
-services-next-requires c κs = let d = c.before.before.before.before.before.before in
-    (rw c.least.ensures (omega arith), rw c.least.ensures d.requires.0.within, d.requires.1)
+services-next-requires : tie.Need-services_next-services-requires
+services-next-requires c κs = 
+    (rw c.least-n.ensures (omega arith), rw c.least-n.ensures c.requires.0.within, c.requires.1)
 
-allowance-of-requires : tie.Need-allowance-of-requires
-allowance-of-requires c κs = let d = c.before.before.before.before.before.before.before.before.before.before in
-    let r = plan_of_state d.args.a (counters_tell d.args.a d.requires.0.counters) in
-    rw c.caps-of.ensures (omega (arith, r, caps_bound (d.args.a.day + 1)))
+allowance-of-requires : tie.Need-allowance_of-fresh-requires
+allowance-of-requires c κs = 
+    let r = plan_of_state c.args.a (counters_tell c.args.a c.requires.0.counters) in
+    rw c.caps_of-caps.ensures (omega (arith, r, caps_bound (c.args.a.day + 1)))
 
 returns : tie.Need-returns
 unfolding next_state_of turns_month
 returns c =
-    let d = c.before.before.before in
-    simp (d.day-empty.ensures, d.before.pick2.ensures, d.before.before.pick.ensures, d.before.before.before.pick-allowance.ensures, d.before.before.before.before.allowance-of.ensures, d.before.before.before.before.before.caps-of.ensures, d.before.before.before.before.before.before.starts_month.ensures, d.before.before.before.before.before.before.before.prepaid.ensures, d.before.before.before.before.before.before.before.before.services_next.ensures, d.before.before.before.before.before.before.before.before.before.least.ensures)
+    simp (c.day_empty-today.ensures, c.pick-roamed.ensures, c.pick-monthly.ensures, c.pick_allowance-allowance.ensures, c.allowance_of-fresh.ensures, c.caps_of-caps.ensures, c.starts_month-first.ensures, c.prepaid-prepaid.ensures, c.services_next-services.ensures, c.least-n.ensures)
 
 pub next_from_spec : {M : Type 1} → statement M
 next_from_spec =

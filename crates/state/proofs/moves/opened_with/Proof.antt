@@ -6,14 +6,13 @@ use borrow.Author.Rules.{rules}
 use Rattle.state.proofs.moves.opened_with.Statement.{statement}
 use Rattle.state.proofs.moves.opened_with.Tie as tie
 
-allowance-of-requires : tie.Need-allowance-of-requires
-allowance-of-requires c κs = rw c.caps-of.ensures (omega (arith, c.before.requires, caps_bound c.before.args.p.start))
+allowance-of-requires : tie.Need-allowance_of-allowance-requires
+allowance-of-requires c κs = rw c.caps_of-caps.ensures (omega (arith, c.requires, caps_bound c.args.p.start))
 
 returns : tie.Need-returns
 unfolding opened_state
 returns c =
-    let d = c.before in
-    simp (c.no_meters.ensures, d.day-empty.ensures, d.before.all_clear.ensures, d.before.before.allowance-of.ensures, d.before.before.before.caps-of.ensures)
+    simp (c.no_meters-meters.ensures, c.day_empty-today.ensures, c.all_clear-services.ensures, c.allowance_of-allowance.ensures, c.caps_of-caps.ensures)
 
 pub opened_with_spec : {M : Type 1} → statement M
 opened_with_spec =

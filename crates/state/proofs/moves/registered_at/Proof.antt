@@ -7,8 +7,7 @@ use Rattle.state.proofs.moves.registered_at.Tie as tie
 returns : tie.Need-returns
 unfolding registered enters
 returns c =
-    let d = c.before.before.before.before in
-    simp (d.marked.ensures, d.before.pick.ensures, d.before.before.pick-allowance.ensures, d.before.before.before.allowance-on.ensures, d.before.before.before.before.zone-at2.ensures, d.before.before.before.before.before.zone-at.ensures, d.before.before.before.before.before.before.prepaid.ensures)
+    simp (c.marked-today.ensures, c.pick-roamed.ensures, c.pick_allowance-allowance.ensures, c.allowance_on-fresh.ensures, c.zone_at-is.ensures, c.zone_at-was.ensures, c.prepaid-prepaid.ensures)
 
 pub registered_at_spec : {M : Type 1} → statement M
 registered_at_spec =

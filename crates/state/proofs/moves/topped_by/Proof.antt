@@ -7,8 +7,7 @@ use Rattle.state.proofs.moves.topped_by.Tie as tie
 returns : tie.Need-returns
 unfolding topped renews
 returns c =
-    let d = c.before.before.before.before.before.before in
-    simp (d.pick.ensures, d.before.pick-allowance.ensures, d.before.before.allowance-on.ensures, d.before.before.before.before.zone-at.ensures, d.before.before.before.before.before.prepaid.ensures)
+    simp (c.pick-roamed.ensures, c.pick_allowance-allowance.ensures, c.allowance_on-fresh.ensures, c.zone_at-here.ensures, c.prepaid-prepaid.ensures)
 
 pub topped_by_spec : {M : Type 1} → statement M
 topped_by_spec =

@@ -11,4 +11,4 @@ basis_fits_spec =
     (λ c κs. search rules)
     (λ c κs. search rules)
     (λ c κs. search rules)
-    (λ c. simp (c.sum-fits4.ensures, c.before.sum-fits3.ensures, c.before.before.sum-fits2.ensures, c.before.before.before.sum-fits.ensures)))
+    (λ c. simp (c.sum_fits-sms.ensures, c.sum_fits-incoming.ensures, c.sum_fits-outgoing.ensures, c.sum_fits-kb.ensures)))

@@ -8,19 +8,18 @@ use Rattle.state.proofs.sound.counters_fit.Tie as tie
 returns : tie.Need-returns
 unfolding counters_sound all
 returns c =
-    let d = c.before.before.before.before.before.before.before.before.before.before in
     simp (
-      d.warning-fits3.ensures,
-      d.before.warning-fits2.ensures,
-      d.before.before.warning_fits.ensures,
-      d.before.before.before.days-logged.ensures,
-      d.before.before.before.before.allowance_fits.ensures,
-      d.before.before.before.before.before.basis_fits.ensures,
-      d.before.before.before.before.before.before.units-fit2.ensures,
-      d.before.before.before.before.before.before.before.units-fit.ensures,
-      d.before.before.before.before.before.before.before.before.lifetime-fits.ensures,
-      d.before.before.before.before.before.before.before.before.before.plan-opens.ensures,
-      d.before.before.before.before.before.before.before.before.before.before.chargeable-of.ensures,
+      c.warning_fits-messages_ok.ensures,
+      c.warning_fits-calls_ok.ensures,
+      c.warning_fits-internet_ok.ensures,
+      c.days_logged-logged.ensures,
+      c.allowance_fits-allowance_ok.ensures,
+      c.basis_fits-basis_ok.ensures,
+      c.units_fit-surcharged_ok.ensures,
+      c.units_fit-billed_ok.ensures,
+      c.lifetime_fits-lifetime_ok.ensures,
+      c.plan_opens-plan_ok.ensures,
+      c.chargeable_of-chargeable.ensures,
     )
 
 pub counters_fit_spec : {M : Type 1} → statement M

@@ -5,4 +5,4 @@ use Rattle.state.proofs.sound.warning_fits.Tie as tie
 
 pub warning_fits_spec : {M : Type 1} → statement M
 warning_fits_spec =
-    tie.close (tie.spec (λ c. search rules) (λ c. search rules) (λ c. search rules) (λ c. search rules) (λ c. simp c.before.s.given.1) (λ c. search rules))
+    tie.close (tie.spec (λ c. search rules) (λ c. search rules) (λ c. search rules) (λ c. search rules) (λ c. simp c.in-Warned.is) (λ c. search rules))
