@@ -1,4 +1,6 @@
 // The account: each call takes it as a value and returns it beside the answer (account-1, form-3).
+#![tactic(auto)]
+
 pub mod afford;
 pub mod claims;
 

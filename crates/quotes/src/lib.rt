@@ -1,4 +1,6 @@
 // What a use of one kind costs, from that kind's own figures: for Afford, which asks for the cost of many amounts.
+#![tactic(auto)]
+
 pub mod claims;
 
 ghost use Rattle.std.specs.Prelude.{◌≡◌, ◌+◌, ◌-◌, ◌*◌, ◌≤◌, ◌<◌};

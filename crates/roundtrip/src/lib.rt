@@ -1,4 +1,6 @@
 // The round trips of a trip file: claims about what `tripfile` reads and writes, stated in specs/Trips.antt.
+#![tactic(auto)]
+
 ghost use Rattle.roundtrip.specs.Trips.{WrittenReadsBack, ReadWritesAgain, ReadKeepsTrip};
 
 // What was written reads back as the same plan and calls.

@@ -1,4 +1,6 @@
 // A plan and its calls, read from a file and written to a buffer (file-7 to file-9, write-1, write-2).
+#![tactic(auto)]
+
 pub mod calls;
 pub mod reading;
 pub mod writing;

@@ -3,8 +3,8 @@ use borrow.Author.Rules.{rules}
 use Rattle.quotes.proofs.free_kb.Statement.{statement}
 use Rattle.quotes.proofs.free_kb.Tie as tie
 
-returns-2 : tie.Need-returns-2
-returns-2 c = simp (c.less.ensures, c.before.enum-told2.given.1)
+returns-2 : tie.Need-returns-in-Bundle
+returns-2 c = simp (c.less.ensures, c.in-Bundle.is)
 
 pub free_kb_spec : {M : Type 1} → statement M
 free_kb_spec =

@@ -3,8 +3,8 @@ use borrow.Author.Rules.{rules}
 use Rattle.quotes.proofs.free_of.Statement.{statement}
 use Rattle.quotes.proofs.free_of.Tie as tie
 
-returns : tie.Need-returns
-returns c = simp (c.free_kb.ensures, c.before.enum_told.given.1)
+returns : tie.Need-returns-in-Data
+returns c = simp (c.free_kb.ensures, c.in-Data.is)
 
 pub free_of_spec : {M : Type 1} → statement M
 free_of_spec =

@@ -3,17 +3,17 @@ use borrow.Author.Rules.{rules}
 use Rattle.quotes.proofs.inside_of.Statement.{statement}
 use Rattle.quotes.proofs.inside_of.Tie as tie
 
-returns : tie.Need-returns
-returns c = simp (c.inside_part.ensures, c.before.left_of.ensures, c.before.before.enum_told.given.1)
+returns : tie.Need-returns-in-Data
+returns c = simp (c.inside_part.ensures, c.left_of.ensures, c.in-Data.is)
 
-returns-2 : tie.Need-returns-2
-returns-2 c = simp (c.inside-part2.ensures, c.before.enum-told2.given.1)
+returns-2 : tie.Need-returns-in-Outgoing
+returns-2 c = simp (c.inside_part-in-Outgoing.ensures, c.in-Outgoing.is)
 
-returns-3 : tie.Need-returns-3
-returns-3 c = simp (c.inside-part3.ensures, c.before.enum-told3.given.1)
+returns-3 : tie.Need-returns-in-Incoming
+returns-3 c = simp (c.inside_part-in-Incoming.ensures, c.in-Incoming.is)
 
-returns-4 : tie.Need-returns-4
-returns-4 c = simp (c.inside-part4.ensures, c.before.enum-told4.given.1)
+returns-4 : tie.Need-returns-in-Sms
+returns-4 c = simp (c.inside_part-in-Sms.ensures, c.in-Sms.is)
 
 pub inside_of_spec : {M : Type 1} → statement M
 inside_of_spec =

@@ -3,8 +3,8 @@ use borrow.Author.Rules.{rules}
 use Rattle.quotes.proofs.least_charged.Statement.{statement}
 use Rattle.quotes.proofs.least_charged.Tie as tie
 
-returns-2 : tie.Need-returns-2
-returns-2 c = simp (c.pick.ensures, c.before.before.before.zone-at.ensures, c.before.enum-told2.given.1)
+returns-2 : tie.Need-returns-in-Outgoing
+returns-2 c = simp (c.pick.ensures, c.zone_at-zone.ensures, c.in-Outgoing.is)
 
 pub least_charged_spec : {M : Type 1} → statement M
 least_charged_spec =

@@ -3,14 +3,14 @@ use borrow.Author.Rules.{rules}
 use Rattle.quotes.proofs.points_of.Statement.{statement}
 use Rattle.quotes.proofs.points_of.Tie as tie
 
-returns : tie.Need-returns
-returns c = simp c.enum_told.given.1
+returns : tie.Need-returns-in-Data
+returns c = simp c.in-Data.is
 
-returns-2 : tie.Need-returns-2
-returns-2 c = simp c.enum-told2.given.1
+returns-2 : tie.Need-returns-in-Outgoing
+returns-2 c = simp c.in-Outgoing.is
 
-returns-3 : tie.Need-returns-3
-returns-3 c = simp c.enum-told3.given.1
+returns-3 : tie.Need-returns-in-Incoming
+returns-3 c = simp c.in-Incoming.is
 
 pub points_of_spec : {M : Type 1} → statement M
 points_of_spec =

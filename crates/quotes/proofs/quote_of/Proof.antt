@@ -7,17 +7,15 @@ use borrow.Author.Rules.{rules}
 use Rattle.quotes.proofs.quote_of.Statement.{statement}
 use Rattle.quotes.proofs.quote_of.Tie as tie
 
-add_t24 : tie.Need-overflow-add-t24
-add_t24 c = let e = c.before.before.before.before.before.before in
-    let d = e.before.before.before.before.before.before.before.before.before.before.before.before.before.before in
-    let f = counters_tell d.args.a d.requires.counters in
-    rw e.spent_so_far.ensures (record { fits = omega (arith, so_far_most d.args.a f d.args.k, (charges_tell d.args.a d.requires.charges).balance, f.paid_ok) })
+add_t24 : tie.Need-overflow_add-result
+add_t24 c = 
+    let f = counters_tell c.args.a c.requires.counters in
+    rw c.spent_so_far-so_far.ensures (record { fits = omega (arith, so_far_most c.args.a f c.args.k, (charges_tell c.args.a c.requires.charges).balance, f.paid_ok) })
 
 returns : tie.Need-returns
 unfolding quote_of
-returns c = let e = c.before.before.before.before.before.before in
-    let g = e.before.before.before.before.before.before.before in
-    simp (c.before.pick2.ensures, c.before.before.zone-at.ensures, c.before.before.before.pick.ensures, c.before.before.before.before.bears-home-price.ensures, c.before.before.before.before.before.less.ensures, e.spent_so_far.ensures, e.before.amount4.ensures, e.before.before.amount3.ensures, e.before.before.before.amount2.ensures, e.before.before.before.before.price_of.ensures, e.before.before.before.before.before.seconds_left.ensures, e.before.before.before.before.before.before.least_charged.ensures, g.caps-of.ensures, g.before.amount.ensures, g.before.before.inside_of.ensures, g.before.before.before.free_of.ensures)
+returns c = 
+    simp (c.pick-2.ensures, c.zone_at.ensures, c.pick.ensures, c.bears_home_price.ensures, c.less.ensures, c.spent_so_far-so_far.ensures, c.amount-basis.ensures, c.amount-cap.ensures, c.amount-billed.ensures, c.price_of-price.ensures, c.seconds_left-seconds.ensures, c.least_charged-least.ensures, c.caps_of-caps.ensures, c.amount-lifetime.ensures, c.inside_of-inside.ensures, c.free_of-free.ensures)
 
 pub quote_of_spec : {M : Type 1} → statement M
 quote_of_spec =

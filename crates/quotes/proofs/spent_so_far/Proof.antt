@@ -6,19 +6,19 @@ use borrow.Author.Rules.{rules}
 use Rattle.quotes.proofs.spent_so_far.Statement.{statement}
 use Rattle.quotes.proofs.spent_so_far.Tie as tie
 
-mul_points_of : tie.Need-overflow-mul-points-of
-mul_points_of c = let d = c.before.before.before in
-    rw (c.before.before.price_of.ensures, c.before.amount.ensures) (record { fits = omega (arith, product_most d.args.a (counters_tell d.args.a d.requires.counters) d.args.k) })
+mul_points_of : tie.Need-overflow_mul-price
+mul_points_of c = 
+    rw (c.price_of-price.ensures, c.amount-billed.ensures) (record { fits = omega (arith, product_most c.args.a (counters_tell c.args.a c.requires.counters) c.args.k) })
 
-add-result : tie.Need-overflow-add-result
-add-result c = let d = c.before.before.before.before.before in
-    let f = counters_tell d.args.a d.requires.counters in
-    rw (c.points-of2.ensures, c.before.points-of.ensures, c.before.before.amount2.ensures, c.before.before.before.amount.ensures, c.before.before.before.before.price_of.ensures)
-    (record { fits = omega (arith, so_far_most d.args.a f d.args.k) })
+add-result : tie.Need-overflow_add-result
+add-result c = 
+    let f = counters_tell c.args.a c.requires.counters in
+    rw (c.points_of-extra.ensures, c.points_of-home.ensures, c.amount-basis.ensures, c.amount-billed.ensures, c.price_of-price.ensures)
+    (record { fits = omega (arith, so_far_most c.args.a f c.args.k) })
 
 returns : tie.Need-returns
-returns c = let d = c.before.before in
-    simp (c.points-of2.ensures, c.before.points-of.ensures, d.amount2.ensures, d.before.amount.ensures, d.before.before.price_of.ensures)
+returns c = 
+    simp (c.points_of-extra.ensures, c.points_of-home.ensures, c.amount-basis.ensures, c.amount-billed.ensures, c.price_of-price.ensures)
 
 pub spent_so_far_spec : {M : Type 1} → statement M
 spent_so_far_spec =

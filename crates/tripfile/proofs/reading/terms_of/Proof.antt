@@ -7,8 +7,7 @@ use Rattle.tripfile.proofs.reading.terms_of.Tie as tie
 returns : tie.Need-returns
 unfolding terms_in
 returns c =
-    let d = c.before.before.before in
-    simp (d.before.before.before.word_at.ensures, d.before.before.word-at2.ensures, d.before.word-at3.ensures, d.word-at4.ensures, c.before.before.word-at5.ensures, c.before.word-at6.ensures, c.word-at7.ensures)
+    simp (c.word_at-form.ensures, c.word_at-start.ensures, c.word_at-pergb.ensures, c.word_at-perminute.ensures, c.word_at-persms.ensures, c.word_at-fee.ensures, c.word_at-volume.ensures)
 
 pub terms_of_spec : {M : Type 1} → statement M
 terms_of_spec =

@@ -11,19 +11,18 @@ use Rattle.tripfile.proofs.writing.fill.Tie as tie
 
 returns : tie.Need-returns
 returns c =
-    let b = c.before.before.before.before.before.before.before.before.before.before.before.before.before.before.before.before.before.before.before.before.before.before.before.before.before.before in
-    let cs = b.args.codes.now in
-    let ns = b.args.numbers.now in
-    let buf = b.args.buf.now in
-    let l₁ = c.before.before.before.before.before.before.before.before.before.before.before.before.before.before.before.before.before.before.before.before.put-words.new.0 in
-    let l₂ = c.before.before.before.before.before.before.before.before.before.before.before.before.before.before.put-words2.new.0 in
-    let l₃ = c.before.before.before.before.before.before.before.before.before.before.put-calls.new.0 in
+    let cs = c.args.codes.now in
+    let ns = c.args.numbers.now in
+    let buf = c.args.buf.now in
+    let l₁ = c.put_words.new.s in
+    let l₂ = c.put_words-2.new.s in
+    let l₃ = c.put_calls.new.s in
     let b₁ = put_part 0 36 buf l₁ in
     let b₂ = put_part 36 28 b₁ l₂ in
     let b₃ = put_part 64 (length b₂ - 64) b₂ l₃ in
-    run b.args.plan cs ns buf c.before.before.before.before.before.before.before.before.before.before.before.before.before.before.before.before.before.words_of.result l₁ l₂ l₃ b₃ c.before.before.put_word.new.0 c.before.before.before.before.before.sum.result c.before.before.before.solve.result b.requires
-    (fit_of cs (λ i. omega (arith, c.before.before.before.before.before.before.before.before.before.before.before.before.before.before.before.before.before.before.before.before.before.before.before.before.before.shared-slice-known.given i))) (fit_of ns (λ i. omega (arith, c.before.before.before.before.before.before.before.before.before.before.before.before.before.before.before.before.before.before.before.before.before.before.before.before.shared-slice-known2.given i)))
-    c.before.before.before.before.before.before.before.before.before.before.before.before.before.before.before.before.before.before.before.before.put-words.ensures c.before.before.before.before.before.before.before.before.before.before.before.before.before.before.before.before.before.words_of.ensures c.before.before.before.before.before.before.before.before.before.before.before.before.before.before.put-words2.ensures c.before.before.before.before.before.before.before.before.before.before.put-calls.ensures refl c.before.before.before.before.before.sum.ensures c.before.before.before.solve.ensures c.before.before.put_word.ensures
+    run c.args.plan cs ns buf c.words_of-body.result l₁ l₂ l₃ b₃ c.put_word.new.s c.sum-rest.result c.solve.result c.requires
+    (fit_of cs (λ i. omega (arith, c.shared_slice_known-1.given i))) (fit_of ns (λ i. omega (arith, c.shared_slice_known-2-1.given i)))
+    c.put_words.ensures c.words_of-body.ensures c.put_words-2.ensures c.put_calls.ensures refl c.sum-rest.ensures c.solve.ensures c.put_word.ensures
 
 pub fill_spec : {M : Type 1} → statement M
 fill_spec =

@@ -5,15 +5,15 @@ use borrow.Author.Rules.{rules}
 use Rattle.tripfile.proofs.writing.verdict_on.Statement.{statement}
 use Rattle.tripfile.proofs.writing.verdict_on.Tie as tie
 
-returns : tie.Need-returns
+returns : tie.Need-returns-in-Refused
 returns c =
-    let b = c.before.before.before.before.before.before.args in
-    simp (write_then b.plan b.codes.now b.numbers.now b.room, sym c.before.before.before.check-plan.ensures ∙ c.before.v.given.1)
+    let b = c.args in
+    simp (write_then b.plan b.codes.now b.numbers.now b.room, sym c.check_plan-v.ensures ∙ c.in-Refused.is)
 
-returns-2 : tie.Need-returns-2
+returns-2 : tie.Need-returns-in-Accepted
 returns-2 c =
-    let b = c.before.before.before.before.before.before.args in
-    simp (write_then b.plan b.codes.now b.numbers.now b.room, sym c.before.before.before.check-plan.ensures ∙ c.before.enum_told.given.1, c.calls-verdict.ensures)
+    let b = c.args in
+    simp (write_then b.plan b.codes.now b.numbers.now b.room, sym c.check_plan-v.ensures ∙ c.in-Accepted.is, c.calls_verdict.ensures)
 
 pub verdict_on_spec : {M : Type 1} → statement M
 verdict_on_spec =

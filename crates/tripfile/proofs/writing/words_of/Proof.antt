@@ -6,7 +6,7 @@ use Rattle.tripfile.proofs.writing.words_of.Tie as tie
 
 returns : tie.Need-returns
 unfolding plan_words
-returns c = simp c.before.before.before.before.before.before.form-number.ensures
+returns c = simp c.form_number-form.ensures
 
 pub words_of_spec : {M : Type 1} → statement M
 words_of_spec =
