@@ -98,7 +98,7 @@ step_fits full long short Surcharged = go long
 
 next_fits : (s : Service) (n : ℕ) (ds : List Day) (state : ServiceState) → warning_fits (next_state s n ds state) ≡ true
 unfolding next_state
-next_fits s n ds state = step_fits _ _ _ state
+next_fits s n ds state = step_fits (leb 123 n) (prevalent_long s n ds) (prevalent_short s n ds) state
 
 either_bounded : (b : Bool) (m n : ℕ) → m ≤ n → cond b 0 m ≤ n
 either_bounded true m n h = omega arith

@@ -5,8 +5,8 @@ use Rattle.account.proofs.apply.Statement.{statement}
 use Rattle.account.proofs.apply.Tie as tie
 
 returns : tie.Need-returns
-returns c = let a = c.before.before.before.before.args in
-    simp c.before.call-held.ensures.0 (joined_applied a.t1 a.c _ c.before.call-held.ensures.1)
+returns c = let a = c.args in
+    simp c.call_held-done.ensures.0 (joined_applied a.a a.c _ c.call_held-done.ensures.1)
 
 pub apply_spec : {M : Type 1} → statement M
 apply_spec = tie.close (tie.spec (λ c κs. search rules) returns)

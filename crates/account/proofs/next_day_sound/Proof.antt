@@ -9,21 +9,21 @@ use borrow.Author.Rules.{rules}
 use Rattle.account.proofs.next_day_sound.Statement.{statement}
 use Rattle.account.proofs.next_day_sound.Tie as tie
 
-returns : tie.Need-returns
+returns : tie.Need-returns-then-state-ge3833
 unfolding applied
-returns c = let d = c.before.before.before in
-    let e = next_9 (account_of d.args.state d.args.log.now) d.requires.1 (omega (arith, c.if1.true)) in
+returns c = 
+    let e = next_9 (account_of c.args.state c.args.log.now) c.requires.1 (omega (arith, c.if-state-ge3833.true)) in
     (ap applied_state e, ap log_of e)
 
-next-from-requires : tie.Need-next-from-requires
-next-from-requires c κs = let d = c.before.before.before.before.before.before.before.before in
-    (rw (c.before.before.before.push.ensures, days_joined d.args.state.today d.args.log.now) (turns (account_of d.args.state d.args.log.now) d.requires.1 (omega (arith, c.before.before.before.before.before.if1.false))), search rules)
+next-from-requires : tie.Need-next_from-next-requires
+next-from-requires c κs = 
+    (rw (c.push.ensures, days_joined c.args.state.today c.args.log.now) (turns (account_of c.args.state c.args.log.now) c.requires.1 (omega (arith, c.if-state-ge3833.false))), search rules)
 
-returns-2 : tie.Need-returns-2
+returns-2 : tie.Need-returns
 unfolding applied
-returns-2 c = let d = c.before.before.before.before.before.before.before.before.before in
-    let e = next_yes (account_of d.args.state d.args.log.now) d.requires.1 (omega (arith, c.before.before.before.before.before.before.if1.false)) in
-    (rw (c.next-from.ensures, c.before.before.before.before.push.ensures, days_joined d.args.state.today d.args.log.now) (ap applied_state e), c.before.before.before.before.push.ensures ∙ ap log_of e)
+returns-2 c = 
+    let e = next_yes (account_of c.args.state c.args.log.now) c.requires.1 (omega (arith, c.if-state-ge3833.false)) in
+    (rw (c.next_from-next.ensures, c.push.ensures, days_joined c.args.state.today c.args.log.now) (ap applied_state e), c.push.ensures ∙ ap log_of e)
 
 pub next_day_sound_spec : {M : Type 1} → statement M
 next_day_sound_spec = tie.close (tie.spec returns (λ c κs. search rules) next-from-requires (λ c. search rules) returns-2)

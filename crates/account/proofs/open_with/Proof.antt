@@ -11,19 +11,19 @@ use borrow.Author.Rules.{rules}
 use Rattle.account.proofs.open_with.Statement.{statement}
 use Rattle.account.proofs.open_with.Tie as tie
 
-accepted : (c : tie.After-enum-told) → is_accepted (plan_verdict c.before.before.before.args.p) ≡ true
-accepted c = let e : plan_verdict c.before.before.before.args.p ≡ Accepted = sym c.before.before.check-plan.ensures ∙ c.enum_told.given.1 in rw e refl
+accepted : (c : tie.In-Accepted) → is_accepted (plan_verdict c.args.p) ≡ true
+accepted c = let e : plan_verdict c.args.p ≡ Accepted = sym c.check_plan-verdict.ensures ∙ c.in-Accepted.is in rw e refl
 
-opened-with-requires : tie.Need-opened-with-requires
-opened-with-requires c κs = let r = plan_ranged c.before.before.before.args.p (opens_tells c.before.before.before.args.p (accepted c)).ranges in record { money = r.money; kilobytes = r.kilobytes }
+opened-with-requires : tie.Need-opened_with-requires
+opened-with-requires c κs = let r = plan_ranged c.args.p (opens_tells c.args.p (accepted c)).ranges in record { money = r.money; kilobytes = r.kilobytes }
 
-returns : tie.Need-returns
+returns : tie.Need-returns-in-Accepted
 unfolding open_answer opened
-returns c = simp (c.opened_with.ensures, ← c.before.before.before.check-plan.ensures, c.before.enum_told.given.1)
+returns c = simp (c.opened_with.ensures, ← c.check_plan-verdict.ensures, c.in-Accepted.is)
 
-returns-2 : tie.Need-returns-2
+returns-2 : tie.Need-returns-in-Refused
 unfolding open_answer opened
-returns-2 c = simp (c.opened-with2.ensures, ← c.before.before.before.before.check-plan.ensures, c.before.before.verdict.given.1)
+returns-2 c = simp (c.opened_with-in-Refused.ensures, ← c.check_plan-verdict.ensures, c.in-Refused.is)
 
 pub open_with_spec : {M : Type 1} → statement M
 open_with_spec =

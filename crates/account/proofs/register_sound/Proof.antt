@@ -7,14 +7,14 @@ use mathlib.Core.Path.{ap}
 use Rattle.account.proofs.register_sound.Statement.{statement}
 use Rattle.account.proofs.register_sound.Tie as tie
 
-registered-at-requires : tie.Need-registered-at-requires
-registered-at-requires c κs = let d = c.before in
-    let s = account_of d.args.state d.args.log.now in
-    omega (arith, credit_most s d.requires.1, paid_most s d.requires.1)
+registered-at-requires : tie.Need-registered_at-next-requires
+registered-at-requires c κs = 
+    let s = account_of c.args.state c.args.log.now in
+    omega (arith, credit_most s c.requires.1, paid_most s c.requires.1)
 
 returns : tie.Need-returns
-returns c = let d = c.before.before in
-    simp c.registered-at.ensures (ap applied_state (registered_yes (account_of d.args.state d.args.log.now) d.requires.1 d.args.p))
+returns c = 
+    simp c.registered_at-next.ensures (ap applied_state (registered_yes (account_of c.args.state c.args.log.now) c.requires.1 c.args.p))
 
 pub register_sound_spec : {M : Type 1} → statement M
 register_sound_spec = tie.close (tie.spec registered-at-requires returns)

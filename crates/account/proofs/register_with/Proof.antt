@@ -2,19 +2,18 @@
 use Rattle.account.proofs.Returns.{unsound}
 use Rattle.account.specs.Answers.{account_of, applied_state}
 use Rattle.account.specs.declared.Call.TheVariants.{Register}
-use borrow.Author.Tests.{not-true, not-false}
 use mathlib.Core.Path.{sym, ◌∙◌, ap}
 use borrow.Author.Rules.{rules}
 use Rattle.account.proofs.register_with.Statement.{statement}
 use Rattle.account.proofs.register_with.Tie as tie
 
-returns : tie.Need-returns
-returns c = let a = c.before.before.before.args in
-    ap applied_state (unsound (account_of a.state a.log.now) (Register a.p) (sym c.before.parts_fit.ensures ∙ not-true c.before.parts_fit.result c.if1.true))
+returns : tie.Need-returns-then-not-parts_fit
+returns c = let a = c.args in
+    ap applied_state (unsound (account_of a.state a.log.now) (Register a.p) (sym c.parts_fit.ensures ∙ c.if-not-parts_fit.true))
 
-sound-requires : tie.Need-register-sound-requires
+sound-requires : tie.Need-register_sound-requires
 sound-requires c κs =
-    (search rules, sym c.before.parts_fit.ensures ∙ not-false c.before.parts_fit.result c.if1.false)
+    (search rules, sym c.parts_fit.ensures ∙ c.if-not-parts_fit.false)
 
 pub register_with_spec : {M : Type 1} → statement M
 register_with_spec = tie.close (tie.spec (λ c κs. search rules) returns sound-requires (λ c. search rules))

@@ -7,8 +7,8 @@ use Rattle.account.proofs.Account.afford.Tie as tie
 
 returns : tie.Need-returns
 unfolding applied
-returns c = let a = c.before.before.before.before.before.args in
-    simp (c.afford-with.ensures, afford_keeps a.t1 a.k)
+returns c = let a = c.args in
+    simp (c.afford_with-answer.ensures, afford_keeps a.self a.k)
 
 pub afford_spec : {M : Type 1} → statement M
 afford_spec = tie.close (tie.spec (λ c κs. search rules) returns)

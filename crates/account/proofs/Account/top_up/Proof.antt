@@ -7,8 +7,8 @@ use Rattle.account.proofs.Account.top_up.Statement.{statement}
 use Rattle.account.proofs.Account.top_up.Tie as tie
 
 returns : tie.Need-returns
-returns c = let a = c.before.before.before.before.before.before.args in
-    simp c.before.top-up-with.ensures (joined_applied a.t1 (TopUp a.n) a.t1.log (sym (top_up_keeps a.t1 a.n)))
+returns c = let a = c.args in
+    simp c.top_up_with-done.ensures (joined_applied a.self (TopUp a.n) a.t1.log (sym (top_up_keeps a.t1 a.n)))
 
 pub top_up_spec : {M : Type 1} → statement M
 top_up_spec = tie.close (tie.spec (λ c κs. search rules) returns)
