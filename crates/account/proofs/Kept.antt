@@ -29,6 +29,8 @@ use Rattle.presence.specs.declared.ServiceState.{ServiceState}
 use Rattle.presence.specs.declared.ServiceState.TheVariants.{Clear, Warned, Surcharged}
 use Rattle.presence.specs.declared.Day.{Day}
 use Rattle.presence.specs.Log.{days_of, lifetime_most}
+use lib.Dec.{leb}
+use Rattle.presence.specs.Window.{prevalent_long, prevalent_short}
 use Rattle.presence.specs.Service.{state_step, next_state, services_after}
 use Rattle.presence.proofs.Marks.{day_use_bounded, day_mark_bounded}
 use Rattle.presence.proofs.Logs.{over_joined, blank_joined, over_empty, blank_empty}

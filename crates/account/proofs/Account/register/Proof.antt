@@ -8,7 +8,7 @@ use Rattle.account.proofs.Account.register.Tie as tie
 
 returns : tie.Need-returns
 returns c = let a = c.args in
-    simp c.register_with-done.ensures (joined_applied a.self (Register a.p) a.t1.log (sym (register_keeps a.t1 a.p)))
+    simp c.register_with-done.ensures (joined_applied a.self (Register a.p) a.self.log (sym (register_keeps a.self a.p)))
 
 pub register_spec : {M : Type 1} → statement M
 register_spec = tie.close (tie.spec (λ c κs. search rules) returns)

@@ -8,7 +8,7 @@ use Rattle.account.proofs.Account.top_up.Tie as tie
 
 returns : tie.Need-returns
 returns c = let a = c.args in
-    simp c.top_up_with-done.ensures (joined_applied a.self (TopUp a.n) a.t1.log (sym (top_up_keeps a.t1 a.n)))
+    simp c.top_up_with-done.ensures (joined_applied a.self (TopUp a.n) a.self.log (sym (top_up_keeps a.self a.n)))
 
 pub top_up_spec : {M : Type 1} → statement M
 top_up_spec = tie.close (tie.spec (λ c κs. search rules) returns)
