@@ -5,7 +5,7 @@ use mathlib.Core.Bool.{Bool, true, false, not, cond, ◌&&◌}
 use mathlib.Core.List.{List}
 use native.Mathlib.Omega.{arith}
 use native.Mathlib.Numerals.{add-one}
-use lib.Dec.{ltb}
+use lib.Dec.{leb, ltb}
 use borrow.Author.Tests.{leb-false, ltb-true, ltb-false, le-leb}
 use Rattle.tariff.specs.declared.Units.{Units}
 use Rattle.tariff.specs.declared.Kind.{Kind}
@@ -29,7 +29,6 @@ use Rattle.presence.specs.declared.ServiceState.{ServiceState}
 use Rattle.presence.specs.declared.ServiceState.TheVariants.{Clear, Warned, Surcharged}
 use Rattle.presence.specs.declared.Day.{Day}
 use Rattle.presence.specs.Log.{days_of, lifetime_most}
-use lib.Dec.{leb}
 use Rattle.presence.specs.Window.{prevalent_long, prevalent_short}
 use Rattle.presence.specs.Service.{state_step, next_state, services_after}
 use Rattle.presence.proofs.Marks.{day_use_bounded, day_mark_bounded}

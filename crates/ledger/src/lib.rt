@@ -1,4 +1,6 @@
 // Lists of calls and the book: claims about whole lists of calls, stated in specs/Demand3.antt.
+#![tactic(auto)]
+
 ghost use Rattle.ledger.specs.Demand3.{Demand3, Demand3FromSound, SoundStaysSound, OneMoreThanCuts};
 ghost use Rattle.ledger.specs.Demand3.{EndIsCompared};
 ghost use Rattle.ledger.specs.Example.{EndIsNotEnough, UnitsAreNotEnough};

@@ -1,4 +1,6 @@
 // An account as 1,649 numbers: docs/LIBRARY.md has the layout.
+#![tactic(auto)]
+
 pub mod claims;
 
 ghost use Rattle.std.specs.Prelude.{◌≡◌, true, ◌++◌, ◌+◌, ◌≤◌, ◌<◌, length, take, drop};

@@ -6,7 +6,7 @@ use Rattle.numbers.proofs.day_numbers.Tie as tie
 
 returns : tie.Need-returns
 unfolding numbers_of
-returns c = simp c.before.before.before.marks-of.ensures
+returns c = simp c.marks_of-marks.ensures
 
 pub day_numbers_spec : {M : Type 1} → statement M
 day_numbers_spec = tie.close (tie.spec (λ c κs. search rules) returns)

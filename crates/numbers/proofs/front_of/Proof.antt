@@ -4,7 +4,7 @@ use Rattle.numbers.proofs.front_of.Statement.{statement}
 use Rattle.numbers.proofs.front_of.Tie as tie
 
 returns : tie.Need-returns
-returns c = simp (c.before.number-of-location.ensures, c.before.before.number-of-form.ensures)
+returns c = simp (c.number_of_location-place.ensures, c.number_of_form-form.ensures)
 
 pub front_of_spec : {M : Type 1} → statement M
 front_of_spec = tie.close (tie.spec (λ c κs. search rules) (λ c κs. search rules) returns)

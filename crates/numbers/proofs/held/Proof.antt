@@ -7,13 +7,13 @@ use borrow.Author.Rules.{rules}
 use Rattle.numbers.proofs.held.Statement.{statement}
 use Rattle.numbers.proofs.held.Tie as tie
 
-returns : tie.Need-returns
+returns : tie.Need-returns-then-account-ne1649
 unfolding is_account
-returns c = simp (ne_eqb _ _ c.if1.true)
+returns c = simp (ne_eqb _ _ c.if-account-ne1649.true)
 
-returns-2 : tie.Need-returns-2
+returns-2 : tie.Need-returns
 unfolding is_account
-returns-2 c = let e = c.before.before.if1.false in rw (eq-eqb _ _ e) (c.known.ensures ∙ ap tags_known (tail_is _ e))
+returns-2 c = let e = c.if-account-ne1649.false in rw (eq-eqb _ _ e) (c.known.ensures ∙ ap tags_known (tail_is _ e))
 
 pub held_spec : {M : Type 1} → statement M
 held_spec =

@@ -4,7 +4,7 @@ use Rattle.numbers.proofs.meters_of.Statement.{statement}
 use Rattle.numbers.proofs.meters_of.Tie as tie
 
 returns : tie.Need-returns
-returns c = simp (c.units-at4.ensures, c.before.units-at3.ensures, c.before.before.units-at2.ensures, c.before.before.before.before.units_at.ensures)
+returns c = simp (c.units_at-basis.ensures, c.units_at-surcharged.ensures, c.units_at-billed.ensures, c.units_at-lifetime.ensures)
 
 pub meters_of_spec : {M : Type 1} → statement M
 meters_of_spec =

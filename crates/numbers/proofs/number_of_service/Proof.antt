@@ -5,11 +5,11 @@ use borrow.Author.Rules.{rules}
 use Rattle.numbers.proofs.number_of_service.Statement.{statement}
 use Rattle.numbers.proofs.number_of_service.Tie as tie
 
-add-result : tie.Need-overflow-add-result
-add-result c = omega (arith, leb-true c.before.s.given.0.0 14 (rw c.before.s.given.1 at c.before.before.before.requires))
+add-result : tie.Need-overflow_add-result
+add-result c = omega (arith, leb-true c.in-Warned.n 14 (rw c.in-Warned.is at c.requires))
 
-returns-2 : tie.Need-returns-2
-returns-2 c = simp c.before.s.given.1
+returns-2 : tie.Need-returns-in-Warned
+returns-2 c = simp c.in-Warned.is
 
 pub number_of_service_spec : {M : Type 1} → statement M
 number_of_service_spec =

@@ -9,29 +9,28 @@ use Rattle.numbers.proofs.Laid.{copy_more, copy_none}
 use Rattle.numbers.proofs.put_numbers.Statement.{statement}
 use Rattle.numbers.proofs.put_numbers.Tie as tie
 
-abbrev invariant-loop : tie.invariant-loop
+abbrev invariant-loop : tie.invariant-loop-i
 invariant-loop s₀ at xs i₀ s i = (i ≤ length xs) × (length s ≡ length s₀) × (at + length xs ≤ length s₀) × (s ≡ take at s₀ ++ (take i xs ++ drop (at + i) s₀))
 
-abbrev decreases-loop : tie.decreases-loop
+abbrev decreases-loop : tie.decreases-loop-i
 decreases-loop s₀ at xs i₀ s i = length xs - i
 
-loop-holds : tie.Need-loop-init invariant-loop decreases-loop
+loop-holds : tie.Need-loop-i-init invariant-loop decreases-loop
 loop-holds c = let a = c.args in (omega arith, refl, omega arith, copy_none a.at a.s.now a.xs.now)
 
-loop-again : tie.Need-loop-preserved invariant-loop decreases-loop
+loop-again : tie.Need-loop-i-preserved invariant-loop decreases-loop
 loop-again c =
-    let l = c.before.before in
-    let a = l.before.args in
+    let a = c.args in
     let xs = a.xs.now in
-    (omega arith, length-set l.loop.s (a.at + l.loop.i) (get_or xs l.loop.i 0) ∙ l.loop.invariant.1, l.loop.invariant.2, ap (λ (s : List ℕ). set s (a.at + l.loop.i) (get_or xs l.loop.i 0)) l.loop.invariant.3 ∙ copy_more xs a.s.now a.at l.loop.i (omega arith) l.loop.invariant.2)
+    (omega arith, length-set c.loop-i.s (a.at + c.loop-i.i) (get_or xs c.loop-i.i 0) ∙ c.loop-i.invariant.1, c.loop-i.invariant.2, ap (λ (s : List ℕ). set s (a.at + c.loop-i.i) (get_or xs c.loop-i.i 0)) c.loop-i.invariant.3 ∙ copy_more xs a.s.now a.at c.loop-i.i (omega arith) c.loop-i.invariant.2)
 
 returns : tie.Need-returns invariant-loop decreases-loop
 returns c =
-    let a = c.before.before.args in
+    let a = c.args in
     let xs = a.xs.now in
     let s = a.s.now in
-    let e : c.before.loop.i ≡ length xs = omega arith in
-    c.before.loop.invariant.3
+    let e : c.loop-i.i ≡ length xs = omega arith in
+    c.loop-i.invariant.3
     ∙ (ap (λ (k : ℕ). take a.at s ++ (take k xs ++ drop (a.at + k) s)) e
     ∙ ap (λ (ys : List ℕ). take a.at s ++ (ys ++ drop (a.at + length xs) s)) (take_all (length xs) xs (omega arith)))
 

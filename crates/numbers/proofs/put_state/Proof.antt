@@ -5,14 +5,14 @@ use borrow.Author.Rules.{rules}
 use Rattle.numbers.proofs.put_state.Statement.{statement}
 use Rattle.numbers.proofs.put_state.Tie as tie
 
-put-numbers-requires-5 : tie.Need-put-numbers-requires-5
-put-numbers-requires-5 c κs = omega (arith, c.before.before.before.before.before.before.before.before.before.before.before.before.before.before.before.before.before.before.before.before.before.before.before.before.before.before.before.before.before.before.before.requires.0)
+put-numbers-requires-5 : tie.Need-put_numbers-requires-5
+put-numbers-requires-5 c κs = omega (arith, c.requires.0)
 
 returns : tie.Need-returns
-returns c = let d = c.before.before.before.before.before.before.before.before.before.before.before.before.before.before.before.before.before.before.before.before.before.before.before.before.before.before.before.before.before.before.before.before.before.before in
-    state_laid d.args.account.now d.args.a c.before.before.before.before.before.before.before.before.before.before.before.before.before.before.before.before.before.before.before.before.before.before.before.before.before.before.before.before.before.before.before.before.front_of.result c.before.before.before.before.before.before.before.before.before.before.before.before.before.before.before.before.before.before.before.before.before.before.before.before.before.meters_numbers.result c.before.before.before.before.before.before.before.before.before.before.before.before.before.before.before.before.before.before.quota_numbers.result c.before.before.before.before.before.before.before.before.before.before.before.day-numbers.result c.before.before.before.before.before.end_of_lem.result _ _ _ _ _ d.requires.0
-    c.before.before.before.before.before.before.before.before.before.before.before.before.before.before.before.before.before.before.before.before.before.before.before.before.before.before.before.before.before.before.before.before.front_of.ensures c.before.before.before.before.before.before.before.before.before.before.before.before.before.before.before.before.before.before.before.before.before.before.before.before.before.meters_numbers.ensures c.before.before.before.before.before.before.before.before.before.before.before.before.before.before.before.before.before.before.quota_numbers.ensures c.before.before.before.before.before.before.before.before.before.before.before.day-numbers.ensures c.before.before.before.before.before.end_of_lem.ensures
-    c.before.before.before.before.before.before.before.before.before.before.before.before.before.before.before.before.before.before.before.before.before.before.before.before.before.before.before.before.before.put-numbers.ensures c.before.before.before.before.before.before.before.before.before.before.before.before.before.before.before.before.before.before.before.before.before.before.put-numbers2.ensures c.before.before.before.before.before.before.before.before.before.before.before.before.before.before.before.put-numbers3.ensures c.before.before.before.before.before.before.before.before.put-numbers4.ensures c.before.before.put-numbers5.ensures
+returns c = 
+    state_laid c.args.account.now c.args.a c.front_of-front.result c.meters_numbers-meters.result c.quota_numbers-quota.result c.day_numbers-today.result c.end_of-end.result _ _ _ _ _ c.requires.0
+    c.front_of-front.ensures c.meters_numbers-meters.ensures c.quota_numbers-quota.ensures c.day_numbers-today.ensures c.end_of-end.ensures
+    c.put_numbers.ensures c.put_numbers-2.ensures c.put_numbers-3.ensures c.put_numbers-4.ensures c.put_numbers-5.ensures
 
 pub put_state_spec : {M : Type 1} → statement M
 put_state_spec =

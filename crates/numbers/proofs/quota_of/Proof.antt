@@ -4,7 +4,7 @@ use Rattle.numbers.proofs.quota_of.Statement.{statement}
 use Rattle.numbers.proofs.quota_of.Tie as tie
 
 returns : tie.Need-returns
-returns c = simp c.allowance-of.ensures
+returns c = simp c.allowance_of-allowance.ensures
 
 pub quota_of_spec : {M : Type 1} → statement M
 quota_of_spec =

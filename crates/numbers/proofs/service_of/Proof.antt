@@ -4,14 +4,14 @@ use borrow.Author.Rules.{rules}
 use Rattle.numbers.proofs.service_of.Statement.{statement}
 use Rattle.numbers.proofs.service_of.Tie as tie
 
-returns : tie.Need-returns
-returns c = simp (eq-eqb _ _ c.if1.true)
+returns : tie.Need-returns-then-n-eq0
+returns c = simp (eq-eqb _ _ c.if-n-eq0.true)
 
-returns-2 : tie.Need-returns-2
-returns-2 c = simp (ne_eqb _ _ c.before.if1.false, eq-eqb _ _ c.if2.true)
+returns-2 : tie.Need-returns-then-n-eq1
+returns-2 c = simp (ne_eqb _ _ c.if-n-eq0.false, eq-eqb _ _ c.if-n-eq1.true)
 
-returns-3 : tie.Need-returns-3
-returns-3 c = simp (ne_eqb _ _ c.before.if1.false, ne_eqb _ _ c.if2.false)
+returns-3 : tie.Need-returns
+returns-3 c = simp (ne_eqb _ _ c.if-n-eq0.false, ne_eqb _ _ c.if-n-eq1.false)
 
 pub service_of_spec : {M : Type 1} → statement M
 service_of_spec = tie.close (tie.spec returns returns-2 (λ c. search rules) returns-3)

@@ -4,7 +4,7 @@ use Rattle.numbers.proofs.services_of.Statement.{statement}
 use Rattle.numbers.proofs.services_of.Tie as tie
 
 returns : tie.Need-returns
-returns c = simp (c.service-of3.ensures, c.before.before.service-of2.ensures, c.before.before.before.before.service-of.ensures)
+returns c = simp (c.service_of-messages.ensures, c.service_of-calls.ensures, c.service_of-internet.ensures)
 
 pub services_of_spec : {M : Type 1} → statement M
 services_of_spec =

@@ -8,7 +8,7 @@ use Rattle.numbers.proofs.state_held.Tie as tie
 
 returns : tie.Need-returns
 unfolding account_from
-returns c = let d = c.before.before.before in c.state-of.ensures ∙ ap state_from (tail_is d.args.account.now d.requires)
+returns c = c.state_of.ensures ∙ ap state_from (tail_is c.args.account.now c.requires)
 
 pub state_held_spec : {M : Type 1} → statement M
 state_held_spec =

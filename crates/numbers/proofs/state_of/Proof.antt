@@ -6,7 +6,7 @@ use Rattle.numbers.proofs.state_of.Tie as tie
 
 returns : tie.Need-returns
 unfolding state_from
-returns c = simp (c.services-of.ensures, c.before.before.day_in.ensures, c.before.before.before.quota-of.ensures, c.before.before.before.before.meters-of.ensures, c.before.before.before.before.before.money-of.ensures, c.before.before.before.before.before.before.location-of.ensures, c.before.before.before.before.before.before.before.before.before.plan_with.ensures, c.before.before.before.before.before.before.before.before.before.before.terms-of.ensures)
+returns c = simp (c.services_of-services.ensures, c.day_in-today.ensures, c.quota_of-quota.ensures, c.meters_of-meters.ensures, c.money_of-money.ensures, c.location_of-place.ensures, c.plan_with-plan.ensures, c.terms_of.ensures)
 
 pub state_of_spec : {M : Type 1} → statement M
 state_of_spec =
