@@ -1,14 +1,11 @@
--- `cards::add_card` meets its contract. Assumes nothing.
-use native.Mathlib.Omega.{arith}
+use Rattle.std.proofs.Common.{arith}
 use borrow.Author.Tests.{lt-ltb, le-ltb}
 use Rattle.cards.specs.Survey.{survey_with}
-use borrow.Author.Rules.{rules}
-use Rattle.cards.proofs.add_card.Statement.{statement}
-use Rattle.cards.proofs.add_card.Tie as tie
+use Rattle.cards.proofs.add_card.Goals as goal
 
-returns : tie.Need-returns-then-s
+pub returns-then-s : goal.returns-then-s
 unfolding survey_with
-returns c =
+returns-then-s c =
     simp (
       c.in_range.ensures,
       c.card_fits.ensures,
@@ -17,9 +14,9 @@ returns c =
       c.if-s.true,
     )
 
-returns-2 : tie.Need-returns-then-s-gt0
+pub returns-then-s-gt0 : goal.returns-then-s-gt0
 unfolding survey_with
-returns-2 c =
+returns-then-s-gt0 c =
     simp (
       c.in_range.ensures,
       c.card_fits.ensures,
@@ -29,9 +26,9 @@ returns-2 c =
       lt-ltb 0 c.args.s.ahead (omega (arith, c.if-s-gt0.true)),
     )
 
-returns-3 : tie.Need-returns
+pub returns : goal.returns
 unfolding survey_with
-returns-3 c =
+returns c =
     simp (
       c.in_range.ensures,
       c.card_fits.ensures,
@@ -40,16 +37,3 @@ returns-3 c =
       c.if-s.false,
       le-ltb 0 c.args.s.ahead (omega (arith, c.if-s-gt0.false)),
     )
-
-pub add_card_spec : {M : Type 1} → statement M
-add_card_spec =
-    tie.close
-    (tie.spec
-    (λ c κs. search rules)
-    (λ c κs. search rules)
-    (λ c κs. search rules)
-    (λ c κs. search rules)
-    returns
-    (λ c. search rules)
-    returns-2
-    returns-3)
