@@ -137,22 +137,16 @@ fn row_faults(root: &Path, row: &Row, claims: &[Claim]) -> Vec<String> {
         ));
         return wrong;
     };
-    let due = format!("ensures {{ λ _. ⌜ {} ⌝ }}", row.definition);
+    let due = format!("ensures {{ {} }}", row.definition);
     if claim.promise != due {
         fault(format!(
             "{} promises `{}`, not `{due}`",
             row.function, claim.promise
         ));
     }
-    let module = row.file.replace('/', ".");
-    let brought = |m: &str| {
-        m.starts_with(&format!("Rattle·{}", row.krate)) && m.ends_with(&format!(".specs.{module}"))
-    };
-    if !claim
-        .uses
-        .iter()
-        .any(|(m, n)| n == &row.definition && brought(m))
-    {
+    let module = format!("Rattle.{}.specs.{}", row.krate, row.file.replace('/', "."));
+    let brought = (module, row.definition.clone());
+    if !claim.uses.contains(&brought) {
         fault(format!(
             "the file of {} does not take {} from {}/specs/{}",
             row.function, row.definition, row.krate, row.file

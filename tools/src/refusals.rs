@@ -79,11 +79,11 @@ fn fields(text: &str) -> Vec<String> {
     found
 }
 
-/// The lists of the claim: each field `of-OPERATION` ends in the numbers.
+/// The lists of the claim: each field `of_OPERATION` ends in the numbers.
 pub fn orders(text: &str) -> Result<Orders, String> {
     let mut found = Orders::new();
     for line in fields(text) {
-        let Some(field) = line.strip_prefix("pub of-") else {
+        let Some(field) = line.strip_prefix("pub of_") else {
             continue;
         };
         let parts = (field.split_once(" :"), field.rsplit_once('≡'));
@@ -123,9 +123,9 @@ fn table<'a>(text: &'a str, head: &[&str]) -> Result<Vec<Vec<&'a str>>, String> 
     }
 }
 
-/// An operation as the claim names it: `Next day` is next-day.
+/// An operation as the claim names it: `Next day` is next_day, `Top-up` top_up.
 fn operation(name: &str) -> String {
-    name.trim().to_lowercase().replace(' ', "-")
+    name.trim().to_lowercase().replace([' ', '-'], "_")
 }
 
 /// The items of README's list of numbers, each with the lines over which it goes on.

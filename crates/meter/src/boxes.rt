@@ -196,8 +196,7 @@ fn open_found(account: &mut [u64], s: Survey, plan: &[u64]) -> BoxReturned
 
 // Opens a box under a plan of seven numbers for the cards with their allowances. Refusals 0, for another count of
 // numbers of the account, 1, 17, 18, 2, 19 and 20.
-#[unsafe(no_mangle)]
-pub extern "C" fn meter_box_open(account: &mut [u64], cards: &mut [Card], plan: &[u64]) -> u64
+pub fn meter_box_open(account: &mut [u64], cards: &mut [Card], plan: &[u64]) -> u64
     ensures { (result ≡ box_open_code account.old cards.old plan.now)
         × (account.new ≡ box_open_numbers account.old cards.old plan.now)
         × (cards.new ≡ box_open_cards account.old cards.old plan.now) }
@@ -212,8 +211,7 @@ pub extern "C" fn meter_box_open(account: &mut [u64], cards: &mut [Card], plan: 
 
 // A call on a box: 0 register at a place, 1 use of n units of a kind by a card, 2 top-up of n points, 3 next day, 4
 // Afford of a kind by a card. Refusals 0, 19, those of the account's call and, before 6, 20.
-#[unsafe(no_mangle)]
-pub extern "C" fn meter_box_call(
+pub fn meter_box_call(
     account: &mut [u64],
     cards: &mut [Card],
     call: u64,

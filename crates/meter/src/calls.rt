@@ -24,8 +24,7 @@ fn call_on(account: &mut [u64], c: Call) -> Answer
 }
 
 // A registration at a place: 0 home, 1 zone, 2 elsewhere. Refusal 0.
-#[unsafe(no_mangle)]
-pub extern "C" fn meter_register(account: &mut [u64], place: u64) -> u64
+pub fn meter_register(account: &mut [u64], place: u64) -> u64
     ensures code { result ≡ cond (is_place place)
         (answer_code (call_answer account.old (Call.Register (place_named place)))) bad_argument }
     ensures numbers { account.new ≡ cond (is_place place)
@@ -38,8 +37,7 @@ pub extern "C" fn meter_register(account: &mut [u64], place: u64) -> u64
 }
 
 // A top-up by so many points. Refusals 0, 7, 8.
-#[unsafe(no_mangle)]
-pub extern "C" fn meter_top_up(account: &mut [u64], points: u64) -> u64
+pub fn meter_top_up(account: &mut [u64], points: u64) -> u64
     ensures code { result ≡ answer_code (call_answer account.old (Call.TopUp points)) }
     ensures numbers { account.new ≡ call_numbers account.old (Call.TopUp points) }
 {
@@ -47,8 +45,7 @@ pub extern "C" fn meter_top_up(account: &mut [u64], points: u64) -> u64
 }
 
 // A day change. Refusals 0, 9.
-#[unsafe(no_mangle)]
-pub extern "C" fn meter_next_day(account: &mut [u64]) -> u64
+pub fn meter_next_day(account: &mut [u64]) -> u64
     ensures code { result ≡ answer_code (call_answer account.old Call.NextDay) }
     ensures numbers { account.new ≡ call_numbers account.old Call.NextDay }
 {
@@ -56,8 +53,7 @@ pub extern "C" fn meter_next_day(account: &mut [u64]) -> u64
 }
 
 // A use of n units of a kind: 0 data, 1 outgoing, 2 incoming, 3 SMS. Refusals 0, 3, 4, 5, 6.
-#[unsafe(no_mangle)]
-pub extern "C" fn meter_use(account: &mut [u64], kind: u64, n: u64, answer: &mut [u64]) -> u64
+pub fn meter_use(account: &mut [u64], kind: u64, n: u64, answer: &mut [u64]) -> u64
     ensures code { result ≡ cond (kind_with_room kind 5 answer.old)
         (answer_code (call_answer account.old (Call.Use (kind_from kind) n))) bad_argument }
     ensures numbers { account.new ≡ cond (kind_with_room kind 5 answer.old)
@@ -86,8 +82,7 @@ fn afford_on(account: &[u64], k: Kind) -> Answer
 }
 
 // The largest n that a use of the kind is accepted for, 0 if there is none, into the first number of a list.
-#[unsafe(no_mangle)]
-pub extern "C" fn meter_afford(account: &[u64], kind: u64, answer: &mut [u64]) -> u64
+pub fn meter_afford(account: &[u64], kind: u64, answer: &mut [u64]) -> u64
     ensures code { result ≡ cond (kind_with_room kind 1 answer.old)
         (answer_code (call_answer account.now (Call.Afford (kind_from kind)))) bad_argument }
     ensures answered { answer.new ≡ cond (kind_with_room kind 1 answer.old)
@@ -103,8 +98,7 @@ pub extern "C" fn meter_afford(account: &[u64], kind: u64, answer: &mut [u64]) -
 }
 
 // 1000 for the numbers of a sound account, else 0.
-#[unsafe(no_mangle)]
-pub extern "C" fn meter_is_sound(account: &[u64]) -> u64
+pub fn meter_is_sound(account: &[u64]) -> u64
     ensures { result ≡ cond (sound_numbers account.now) accepted 0 }
 {
     if sound_held(account) { 1000 } else { 0 }

@@ -7,8 +7,7 @@ ghost use Rattle.meter.specs.Files.{caps_numbers};
 use super::put_first;
 
 // The caps of a day into the first four numbers of a list, and how many rows were read into the fifth.
-#[unsafe(no_mangle)]
-pub extern "C" fn meter_caps(day: u64, answer: &mut [u64]) -> u64
+pub fn meter_caps(day: u64, answer: &mut [u64]) -> u64
     ensures code { result ≡ cond (leb 5 (length answer.old)) accepted bad_argument }
     ensures answered { answer.new ≡ cond (leb 5 (length answer.old))
         (laid (caps_numbers (search_of built_in day)) answer.old) answer.old }

@@ -33,8 +33,7 @@ fn put_figures(out: &mut [u64], f: Figures)
 }
 
 // The nine figures of a trip file's statement, or the number of a bad file.
-#[unsafe(no_mangle)]
-pub extern "C" fn meter_statement(file: &[u8], answer: &mut [u64]) -> u64
+pub fn meter_statement(file: &[u8], answer: &mut [u64]) -> u64
     ensures code { result ≡ cond (leb 9 (length answer.old))
         (report_code (report_of file.now)) bad_argument }
     ensures answered { answer.new ≡ cond (leb 9 (length answer.old))
@@ -74,8 +73,7 @@ fn put_trip(out: &mut [u64], p: Plan, calls: usize)
 }
 
 // The plan of a trip file and how many calls it has: 10, 11, 12, 13, 14, 15, then 1, 17, 18, 2.
-#[unsafe(no_mangle)]
-pub extern "C" fn meter_read(file: &[u8], answer: &mut [u64]) -> u64
+pub fn meter_read(file: &[u8], answer: &mut [u64]) -> u64
     ensures code { result ≡ cond (leb 8 (length answer.old))
         (read_code (read_of file.now)) bad_argument }
     ensures answered { answer.new ≡ cond (leb 8 (length answer.old))
@@ -95,8 +93,7 @@ pub extern "C" fn meter_read(file: &[u8], answer: &mut [u64]) -> u64
 }
 
 // Where the section of a kind starts in a trip file, and how many bytes it has: 10, 11, 12, 13.
-#[unsafe(no_mangle)]
-pub extern "C" fn meter_find(file: &[u8], kind: u32, answer: &mut [u64]) -> u64
+pub fn meter_find(file: &[u8], kind: u32, answer: &mut [u64]) -> u64
     ensures code { result ≡ cond (leb 2 (length answer.old))
         (verdict_code (find_verdict file.now kind)) bad_argument }
     ensures answered { answer.new ≡ cond (leb 2 (length answer.old))
@@ -132,8 +129,7 @@ pub(crate) fn put_written(out: &mut [u64], w: Written) -> u64
 }
 
 // Writes the trip file of a plan's seven numbers and of calls into a buffer: 1, 17, 18, 2, 14, 15, 16.
-#[unsafe(no_mangle)]
-pub extern "C" fn meter_write(
+pub fn meter_write(
     plan: &[u64],
     codes: &[u32],
     numbers: &[u32],
@@ -161,8 +157,7 @@ pub extern "C" fn meter_write(
 }
 
 // The call at a position of a calls section, unchecked, and the position after it; or that there is none.
-#[unsafe(no_mangle)]
-pub extern "C" fn meter_call(section: &[u8], position: usize, answer: &mut [u64]) -> u64
+pub fn meter_call(section: &[u8], position: usize, answer: &mut [u64]) -> u64
     ensures code { result ≡ cond (leb 3 (length answer.old))
         (step_code (decoded section.now position)) bad_argument }
     ensures answered { answer.new ≡ cond (leb 3 (length answer.old))
@@ -201,8 +196,7 @@ fn run_held(account: &mut [u64], section: &[u8]) -> usize
 
 // All calls of a trip file on an account that has been in use, and how many of them were refused: 0, then the numbers
 // of a bad file.
-#[unsafe(no_mangle)]
-pub extern "C" fn meter_run(account: &mut [u64], file: &[u8], answer: &mut [u64]) -> u64
+pub fn meter_run(account: &mut [u64], file: &[u8], answer: &mut [u64]) -> u64
     ensures code { result ≡ cond (leb 1 (length answer.old))
         (run_code account.old file.now) bad_argument }
     ensures numbers { account.new ≡ cond (leb 1 (length answer.old))

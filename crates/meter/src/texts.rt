@@ -29,8 +29,7 @@ fn put_read(out: &mut [u64], r: TextRead) -> u64
 }
 
 // Reads the calls of a text into the lists: 21, 22, 16.
-#[unsafe(no_mangle)]
-pub extern "C" fn meter_text_read(
+pub fn meter_text_read(
     text: &[u8],
     codes: &mut [u32],
     numbers: &mut [u32],
@@ -54,8 +53,7 @@ pub extern "C" fn meter_text_read(
 }
 
 // Writes the calls as text into the buffer: 14, 15, 21, 16.
-#[unsafe(no_mangle)]
-pub extern "C" fn meter_text_write(
+pub fn meter_text_write(
     codes: &[u32],
     numbers: &[u32],
     text: &mut [u8],
