@@ -22,7 +22,7 @@ use Rattle.state.specs.Use.{charged_as, charged_units, billable, roaming, billed
 use Rattle.account.specs.declared.Account.{Account}
 use Rattle.account.specs.declared.Call.{Call}
 use Rattle.account.specs.declared.Call.TheVariants.{Register, Use}
-use Rattle.account.specs.Whole.{sound, opened, register_at, spend}
+use Rattle.account.specs.Whole.{opened, register_at, spend}
 use Rattle.account.specs.Calls.{own_reasons, reasons, verdict, accepts, after, step}
 use Rattle.account.specs.Answers.{open_answer}
 use Rattle.account.proofs.Kept.{Sound, sound_passes, sound_step, sound_opened}

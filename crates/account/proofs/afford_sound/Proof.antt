@@ -14,15 +14,15 @@ somewhere : (c : tie.Else-not-placed) → is_placed c.args.state.place ≡ true
 somewhere c = sym c.placed.ensures ∙ c.if-not-placed.false
 
 returns : tie.Need-returns-then-not-placed
-returns c = 
+returns c =
     ap (λ (x : Applied). x.answer) (afford_nowhere (account_of c.args.state c.args.log.now) c.args.k c.requires.1 (sym c.placed.ensures ∙ c.if-not-placed.true))
 
 most-of-requires : tie.Need-most_of-n-requires
-most-of-requires c κs = 
+most-of-requires c κs =
     (steady (account_of c.args.state c.args.log.now) c.requires.1, somewhere c)
 
 returns-2 : tie.Need-returns
-returns-2 c = 
+returns-2 c =
     ap (λ (x : Applied). x.answer) (afford_yes (account_of c.args.state c.args.log.now) c.args.k c.requires.1 c.most_of-n.result (somewhere c.before) c.most_of-n.ensures)
 
 pub afford_sound_spec : {M : Type 1} → statement M

@@ -20,7 +20,7 @@ returns-3 c = let a = account_of c.args.state c.args.log.now in
     (simp c.in-TopUp.is c.top_up_sound.ensures, simp c.in-TopUp.is (sym (top_up_keeps a _)))
 
 returns-4 : tie.Need-returns-in-NextDay
-returns-4 c = 
+returns-4 c =
     (simp c.in-NextDay.is c.next_day_sound.ensures.0, simp c.in-NextDay.is c.next_day_sound.ensures.1)
 
 returns-5 : tie.Need-returns-in-Afford

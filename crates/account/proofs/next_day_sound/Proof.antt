@@ -11,17 +11,17 @@ use Rattle.account.proofs.next_day_sound.Tie as tie
 
 returns : tie.Need-returns-then-state-ge3833
 unfolding applied
-returns c = 
+returns c =
     let e = next_9 (account_of c.args.state c.args.log.now) c.requires.1 (omega (arith, c.if-state-ge3833.true)) in
     (ap applied_state e, ap log_of e)
 
 next-from-requires : tie.Need-next_from-next-requires
-next-from-requires c κs = 
+next-from-requires c κs =
     (rw (c.push.ensures, days_joined c.args.state.today c.args.log.now) (turns (account_of c.args.state c.args.log.now) c.requires.1 (omega (arith, c.if-state-ge3833.false))), search rules)
 
 returns-2 : tie.Need-returns
 unfolding applied
-returns-2 c = 
+returns-2 c =
     let e = next_yes (account_of c.args.state c.args.log.now) c.requires.1 (omega (arith, c.if-state-ge3833.false)) in
     (rw (c.next_from-next.ensures, c.push.ensures, days_joined c.args.state.today c.args.log.now) (ap applied_state e), c.push.ensures ∙ ap log_of e)
 

@@ -29,7 +29,7 @@ unfolding sound all
 returns-2 c = simp (sym c.charges_fit.ensures ∙ c.if-not-charges_fit.true, and-false)
 
 log-fits-requires : tie.Need-log_fits-requires
-log-fits-requires c κs = 
+log-fits-requires c κs =
     let g = counters_tell c.args.state (counters c.before.before.before.before) in (omega (arith, g.logged_ok), g.lifetime_ok, c.requires)
 
 returns-3 : tie.Need-returns

@@ -15,24 +15,24 @@ in_range : (c : tie.Else-not-within) → between 1 c.args.n 10000000 ≡ true
 in_range c = sym c.within.ensures ∙ c.if-not-within.false
 
 returns : tie.Need-returns-then-not-within
-returns c = 
+returns c =
     ap applied_state (topped_7 (account_of c.args.state c.args.log.now) c.requires.1 c.args.n (sym c.within.ensures ∙ c.if-not-within.true))
 
 add_if2 : tie.Need-overflow_add-state
-add_if2 c = 
+add_if2 c =
     omega (arith, paid_most (account_of c.args.state c.args.log.now) c.requires.1, few c.args.n 10000000 (in_range c.before))
 
 returns-2 : tie.Need-returns-then-state-n-gt1000000000
-returns-2 c = 
+returns-2 c =
     ap applied_state (topped_8 (account_of c.args.state c.args.log.now) c.requires.1 c.args.n (in_range c.before.before) (omega (arith, c.if-state-n-gt1000000000.true)))
 
 topped-by-requires : tie.Need-topped_by-next-requires
-topped-by-requires c κs = 
+topped-by-requires c κs =
     let h = credit_most (account_of c.args.state c.args.log.now) c.requires.1 in
     (omega (arith, c.if-state-n-gt1000000000.false), omega (arith, c.if-state-n-gt1000000000.false))
 
 returns-3 : tie.Need-returns
-returns-3 c = 
+returns-3 c =
     simp c.topped_by-next.ensures (ap applied_state (topped_yes (account_of c.args.state c.args.log.now) c.requires.1 c.args.n (in_range c.before.before.before) (omega (arith, c.if-state-n-gt1000000000.false))))
 
 pub top_up_sound_spec : {M : Type 1} → statement M

@@ -7,11 +7,11 @@ use Rattle.account.proofs.use_sound.Statement.{statement}
 use Rattle.account.proofs.use_sound.Tie as tie
 
 use-of-requires : tie.Need-use_of-requires
-use-of-requires c κs = 
+use-of-requires c κs =
     steady (account_of c.args.state c.args.log.now) c.requires.1
 
 returns : tie.Need-returns
-returns c = 
+returns c =
     let a = c.args in
     c.use_of.ensures ∙ ap applied_state (use_sound (account_of a.state a.log.now) a.k a.n c.requires.1)
 

@@ -9,7 +9,7 @@ put-numbers-requires-5 : tie.Need-put_numbers-requires-5
 put-numbers-requires-5 c κs = omega (arith, c.requires.0)
 
 returns : tie.Need-returns
-returns c = 
+returns c =
     state_laid c.args.account.now c.args.a c.front_of-front.result c.meters_numbers-meters.result c.quota_numbers-quota.result c.day_numbers-today.result c.end_of-end.result _ _ _ _ _ c.requires.0
     c.front_of-front.ensures c.meters_numbers-meters.ensures c.quota_numbers-quota.ensures c.day_numbers-today.ensures c.end_of-end.ensures
     c.put_numbers.ensures c.put_numbers-2.ensures c.put_numbers-3.ensures c.put_numbers-4.ensures c.put_numbers-5.ensures

@@ -7,17 +7,17 @@ use Rattle.quotes.proofs.spent_so_far.Statement.{statement}
 use Rattle.quotes.proofs.spent_so_far.Tie as tie
 
 mul_points_of : tie.Need-overflow_mul-price
-mul_points_of c = 
+mul_points_of c =
     rw (c.price_of-price.ensures, c.amount-billed.ensures) (record { fits = omega (arith, product_most c.args.a (counters_tell c.args.a c.requires.counters) c.args.k) })
 
 add-result : tie.Need-overflow_add-result
-add-result c = 
+add-result c =
     let f = counters_tell c.args.a c.requires.counters in
     rw (c.points_of-extra.ensures, c.points_of-home.ensures, c.amount-basis.ensures, c.amount-billed.ensures, c.price_of-price.ensures)
     (record { fits = omega (arith, so_far_most c.args.a f c.args.k) })
 
 returns : tie.Need-returns
-returns c = 
+returns c =
     simp (c.points_of-extra.ensures, c.points_of-home.ensures, c.amount-basis.ensures, c.amount-billed.ensures, c.price_of-price.ensures)
 
 pub spent_so_far_spec : {M : Type 1} → statement M

@@ -11,25 +11,25 @@ few : (c : tie.After-greater-c) → c.greater-c.result ≤ 1000000000
 few c = rw c.greater-c.ensures (omega (arith, c.requires.0.least_most, c.requires.1))
 
 mul_points_of : tie.Need-overflow_mul-q
-mul_points_of c = 
+mul_points_of c =
     rw c.less.ensures (record { fits = omega (arith, priced_most c.args.q c.requires.0 c.greater-c.result (few c.before.before.before)) })
 
 mul_points_of_2 : tie.Need-overflow_mul-q-2
-mul_points_of_2 c = 
+mul_points_of_2 c =
     rw c.less-2.ensures (record { fits = omega (arith, capped_most c.args.q c.requires.0 c.greater-c.result (few c.before.before.before.before.before.before)) })
 
 add_points_of_2 : tie.Need-overflow_add-q-2
-add_points_of_2 c = 
+add_points_of_2 c =
     rw c.less-2.ensures (record { fits = omega (arith, capped_most c.args.q c.requires.0 c.greater-c.result (few c.before.before.before.before.before.before.before), c.requires.0.basis_most) })
 
 add-result : tie.Need-overflow_add-result
-add-result c = 
+add-result c =
     rw (c.points_of-home.ensures, c.points_of-extra.ensures, c.less.ensures, c.less-2.ensures)
     (record { fits = omega (arith, quoted_most c.args.q c.requires.0 c.greater-c.result (few c.before.before.before.before.before.before.before.before.before.before)) })
 
 returns : tie.Need-returns
 unfolding within_quote quoted
-returns c = 
+returns c =
     simp (c.points_of-home.ensures, c.points_of-extra.ensures, c.less.ensures, c.less-2.ensures, c.greater-c.ensures)
 
 pub within_quote_spec : {M : Type 1} → statement M

@@ -18,7 +18,7 @@ length_is : (c : tie.After-part_extent-e) → c.part_extent-e.result.length ≡ 
 length_is c = ap (λ (e : Extent). e.length) c.part_extent-e.ensures
 
 within : (c : tie.After-part_extent-e) → c.part_extent-e.result.start + c.part_extent-e.result.length ≤ length c.args.file.now
-within c = 
+within c =
     rw (start_is c, length_is c) (part_within c.args.file.now c.args.kind (keeps c.args.file.now c.requires.0) c.requires.1)
 
 add_end : tie.Need-overflow_add-end

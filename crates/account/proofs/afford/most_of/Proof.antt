@@ -19,7 +19,7 @@ loop-holds : tie.Need-loop-lo-init invariant-loop decreases-loop
 loop-holds c = record { order = omega arith; top = omega arith; passes = λ h. absurd (omega arith); none = λ m h l. absurd (omega arith) }
 
 within-quote-requires : tie.Need-within_quote-requires invariant-loop decreases-loop
-within-quote-requires c κs = 
+within-quote-requires c κs =
     (rw c.quote_of-q.ensures (quotable c.args.a (counters_tell c.args.a c.requires.0.counters) c.args.k), omega (arith, c.loop-lo.invariant.top))
 
 loop-again : tie.Need-loop-lo-preserved-then-within_quote invariant-loop decreases-loop
@@ -37,7 +37,7 @@ loop-again-2 c = let b = c.loop-lo in
     }
 
 returns : tie.Need-returns invariant-loop decreases-loop
-returns c = 
+returns c =
     let l = c.loop-lo in
     most_is c.args.a c.args.k l.lo l.hi c.requires.0 c.requires.1 (rw c.quote_of-q.ensures at l.invariant) (omega arith)
 

@@ -18,7 +18,7 @@ loop-holds : tie.Need-loop-i-init invariant-loop decreases-loop
 loop-holds c = (omega arith, omega arith, sym (joined_none 0 (days_of c.args.log.now) refl))
 
 loop-again : tie.Need-loop-i-preserved invariant-loop decreases-loop
-loop-again c = 
+loop-again c =
     let ds = days_of c.args.log.now in
     (omega arith, omega arith, c.join_day-bits.ensures ∙ rw (c.loop-i.invariant.2, c.day_at.ensures) (sym (joined_next c.loop-i.i ds)))
 

@@ -13,12 +13,12 @@ use Rattle.presence.proofs.log.log_fits.Statement.{statement}
 use Rattle.presence.proofs.log.log_fits.Tie as tie
 
 returns : tie.Need-returns-then-rest-ne0
-returns c = 
+returns c =
     let a = c.args in
     sym (rest_refused a.log.now a.today a.n a.lifetime c.requires.0 (λ z. omega (arith, c.bits_between-rest.ensures, c.if-rest-ne0.true, z)))
 
 returns-2 : tie.Need-returns-then-marks-gt7
-returns-2 c = 
+returns-2 c =
     let a = c.args in
     sym (marks_refused a.log.now a.today a.n a.lifetime c.requires.0 (omega (arith, c.marks_bits-marks.ensures, c.if-marks-gt7.true)))
 
@@ -28,7 +28,7 @@ bits_are : (c : tie.After-units_bits-units) → let a = c.args in
 bits_are c = c.units_bits-units.ensures ∙ rw (c.join_day.ensures, c.join_days.ensures) refl
 
 returns-3 : tie.Need-returns-then-units-ge1099511627776
-returns-3 c = 
+returns-3 c =
     let a = c.args in
     sym (units_refused a.log.now a.today a.n a.lifetime c.requires.0 c.requires.1 (omega (arith, bits_are c.before, c.if-units-ge1099511627776.true)))
 
@@ -39,17 +39,17 @@ units_low c = let a = c.args in
     days_bounded a.n a.log.now a.today (omega (arith, bits_are c.before, c.if-units-ge1099511627776.false))
 
 tally-requires : tie.Need-tally-requires
-tally-requires c κs = 
+tally-requires c κs =
     (c.requires.0, (units_low c).0, c.requires.2)
 
 add-day-requires : tie.Need-add_day-sum-requires
-add-day-requires c κs = 
+add-day-requires c κs =
     let a = c.args in
     let u = units_low c.before in
     (rw c.tally.ensures (over_room a.n a.n a.log.now c.requires.0 (le_refl a.n) u.0), u.1)
 
 returns-4 : tie.Need-returns
-returns-4 c = 
+returns-4 c =
     let a = c.args in
     let xs = a.log.now in
     let sum : c.add_day-sum.result ≡ day_units a.today ⊕ units_over a.n (days_of xs) =

@@ -17,7 +17,7 @@ loop-holds : tie.Need-loop-i-init invariant-loop decreases-loop
 loop-holds c = (omega arith, omega arith, c.requires, c.requires, shift_start _)
 
 loop-again : tie.Need-loop-i-preserved invariant-loop decreases-loop
-loop-again c = 
+loop-again c =
     (omega arith, omega arith, c.loop-i.invariant.2, length-set c.loop-i.log (c.loop-i.i - 1) _ ∙ c.loop-i.invariant.3, shift_step c.loop-i.i _ c.loop-i.log (omega arith) (omega arith) c.loop-i.invariant.3 c.loop-i.invariant.4)
 
 returns : tie.Need-returns invariant-loop decreases-loop

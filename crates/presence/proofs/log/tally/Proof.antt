@@ -19,13 +19,13 @@ loop-holds : tie.Need-loop-i-init invariant-loop decreases-loop
 loop-holds c = (omega arith, omega arith, c.requires.1, sym (over_none 0 (days_of c.args.log.now) refl))
 
 add-day-requires : tie.Need-add_day-sum-requires invariant-loop decreases-loop
-add-day-requires c κs = 
+add-day-requires c κs =
     let a = c.args in
     let f = c.loop-i.invariant in
     (rw f.3 (over_room c.loop-i.i a.n a.log.now f.1 f.0 f.2), rw c.day_at.ensures (f.2 c.loop-i.i (omega arith)))
 
 loop-again : tie.Need-loop-i-preserved invariant-loop decreases-loop
-loop-again c = 
+loop-again c =
     let ds = days_of c.args.log.now in
     (omega arith, omega arith, c.loop-i.invariant.2, c.add_day-sum.ensures ∙ rw (c.loop-i.invariant.3, c.day_at.ensures) (sym (over_next c.loop-i.i ds)))
 

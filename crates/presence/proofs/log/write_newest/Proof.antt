@@ -10,7 +10,7 @@ use Rattle.presence.proofs.log.write_newest.Tie as tie
 
 returns : tie.Need-returns
 unfolding numbers_of
-returns c = 
+returns c =
     front c.args.log.now _ _ _ _ _ _ _ _ _ _ _ _ _ c.requires ∙ rw c.marks_of.ensures refl
 
 pub write_newest_spec : {M : Type 1} → statement M

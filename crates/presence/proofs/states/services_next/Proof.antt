@@ -10,7 +10,7 @@ use Rattle.presence.proofs.states.services_next.Tie as tie
 
 returns : tie.Need-returns
 unfolding services_after
-returns c = 
+returns c =
     let a = c.args in
     let ds = days_of a.log.now in
     let l = c.asks_long in

@@ -14,12 +14,12 @@ pub overflow_add-result : goal.overflow_add-result
 overflow_add-result t c =
     let ds = map marked_day c.args.marks.now in
     let e : c.on_day-x.result + c.on_days.result ≡ sum_days on_day c.args.w ds
-        = rw (c.on_day-x.ensures, c.marked_day.ensures, ← get_or-map marked_day c.args.marks.now (c.args.w - 1) 0, c.on_days.ensures)
-            (sym (sum_more on_day c.args.w ds c.if-w-eq0.false)) in
+    = rw (c.on_day-x.ensures, c.marked_day.ensures, ← get_or-map marked_day c.args.marks.now (c.args.w - 1) 0, c.on_days.ensures)
+    (sym (sum_more on_day c.args.w ds c.if-w-eq0.false)) in
     omega (arith, e, on_days_counted c.args.w ds, c.requires)
 
 pub returns : goal.returns
 returns t c =
     let ds = map marked_day c.args.marks.now in
     rw (c.on_day-x.ensures, c.marked_day.ensures, ← get_or-map marked_day c.args.marks.now (c.args.w - 1) 0, c.on_days.ensures)
-        (sym (sum_more on_day c.args.w ds c.if-w-eq0.false))
+    (sym (sum_more on_day c.args.w ds c.if-w-eq0.false))

@@ -14,12 +14,12 @@ pub overflow_add-result : goal.overflow_add-result
 overflow_add-result t c =
     let ds = map marked_day c.args.marks.now in
     let e : c.zone_day-x.result + c.zone_days.result ≡ sum_days zone_day c.args.w ds
-        = rw (c.zone_day-x.ensures, c.marked_day.ensures, ← get_or-map marked_day c.args.marks.now (c.args.w - 1) 0, c.zone_days.ensures)
-            (sym (sum_more zone_day c.args.w ds c.if-w-eq0.false)) in
+    = rw (c.zone_day-x.ensures, c.marked_day.ensures, ← get_or-map marked_day c.args.marks.now (c.args.w - 1) 0, c.zone_days.ensures)
+    (sym (sum_more zone_day c.args.w ds c.if-w-eq0.false)) in
     omega (arith, e, zone_days_counted c.args.w ds, c.requires)
 
 pub returns : goal.returns
 returns t c =
     let ds = map marked_day c.args.marks.now in
     rw (c.zone_day-x.ensures, c.marked_day.ensures, ← get_or-map marked_day c.args.marks.now (c.args.w - 1) 0, c.zone_days.ensures)
-        (sym (sum_more zone_day c.args.w ds c.if-w-eq0.false))
+    (sym (sum_more zone_day c.args.w ds c.if-w-eq0.false))

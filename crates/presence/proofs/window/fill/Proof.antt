@@ -21,7 +21,7 @@ day-at-requires : tie.Need-day_at-requires invariant-loop decreases-loop
 day-at-requires c κs = (omega arith, c.requires.2)
 
 column-of-requires : tie.Need-column_of-requires invariant-loop decreases-loop
-column-of-requires c κs = 
+column-of-requires c κs =
     rw c.day_at.ensures (day_low c.args.w c.loop-i.i (days_of c.args.log.now) (omega arith) c.requires.1)
 
 element_write_xs : tie.Need-bounds-xs-i invariant-loop decreases-loop

@@ -19,19 +19,19 @@ counts c = let m = c.last_marks-xs in
     (c.zone_days-zone.ensures ∙ zone_marked c.args.w xs m.result c.requires.0 m.ensures, c.on_days-on.ensures ∙ on_marked c.args.w xs m.result c.requires.0 m.ensures)
 
 mul_if1 : tie.Need-overflow_mul-zone
-mul_if1 c = 
+mul_if1 c =
     let ds = days_of c.args.log.now in
     omega (arith, (counts c).0, zone_days_counted c.args.w ds, c.requires.0)
 
 returns : tie.Need-returns-then-zone-on
-returns c = 
+returns c =
     let a = c.args in
     let ds = days_of a.log.now in
     let few : 2 * sum_days zone_day a.w ds ≤ sum_days on_day a.w ds = omega (arith, counts c.before, c.if-zone-on.true) in
     simp (le-ltb _ _ few)
 
 returns-2 : tie.Need-returns
-returns-2 c = 
+returns-2 c =
     let a = c.args in
     let ds = days_of a.log.now in
     let most : sum_days on_day a.w ds < 2 * sum_days zone_day a.w ds = omega (arith, counts c.before.before.before.before.before.before.before, c.if-zone-on.false) in

@@ -8,7 +8,7 @@ use Rattle.presence.proofs.window.prevalent_where.Statement.{statement}
 use Rattle.presence.proofs.window.prevalent_where.Tie as tie
 
 prevalent-over-requires : tie.Need-prevalent_over-requires
-prevalent-over-requires c κs = 
+prevalent-over-requires c κs =
     let a = c.args in
     let f = fewer_low c.lesser-few.result a.n (days_of a.log.now) (omega (arith, c.lesser-few.ensures)) c.requires.0 c.requires.1 in
     (f.0, f.1, c.requires.2)

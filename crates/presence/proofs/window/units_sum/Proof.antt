@@ -8,12 +8,12 @@ use Rattle.presence.proofs.window.units_sum.Statement.{statement}
 use Rattle.presence.proofs.window.units_sum.Tie as tie
 
 sum-last-requires : tie.Need-sum_last-requires
-sum-last-requires c κs = 
+sum-last-requires c κs =
     let ds = days_of c.args.log.now in
     (c.requires.0, omega (arith, column_summed c.args.c c.args.w ds _ c.fill.ensures, column_small c.args.c c.args.w ds c.requires.0 c.requires.1))
 
 returns : tie.Need-returns
-returns c = 
+returns c =
     let f = c.fill.ensures in
     (c.sum_last.ensures ∙ column_summed c.args.c c.args.w (days_of c.args.log.now) _ f, f.places)
 

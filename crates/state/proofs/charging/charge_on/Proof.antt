@@ -11,7 +11,7 @@ charges : (c : tie.Start) → Grown c.args.a c.args.b
 charges c = rw c.requires.bill_is (grown c.args.a c.args.c c.requires.steady c.requires.ready)
 
 add_notice_at : tie.Need-overflow_add-a
-add_notice_at c = 
+add_notice_at c =
     omega (arith, zone_is c.requires, counted_in c.args.a c.args.c c.requires.ready)
 
 returns : tie.Need-returns

@@ -9,11 +9,11 @@ use Rattle.state.proofs.charging.overfills.Statement.{statement}
 use Rattle.state.proofs.charging.overfills.Tie as tie
 
 add-result : tie.Need-overflow_add-result
-add-result c = 
+add-result c =
     omega (arith, c.amount.ensures, kind_most c.args.k c.args.a c.requires.0, c.requires.1)
 
 add-result-2 : tie.Need-overflow_add-result-2
-add-result-2 c = 
+add-result-2 c =
     omega (arith, ap (λ (x : Units). x.outgoing) c.charged_units-c.ensures, seconds_most c.args.a c.args.k c.args.n c.requires.0 c.requires.1)
 
 returns : tie.Need-returns

@@ -81,11 +81,11 @@ charge-on-requires : tie.Need-charge_on-charge-requires
 charge-on-requires c κs = spends c
 
 spend-requires : tie.Need-spend-next-requires
-spend-requires c κs = 
+spend-requires c κs =
     (spends c.before.before, rw c.only_of-u.ensures (lifetime_room c.args.a c.args.k c.args.n c.requires.counters (in_room c.before.before.before.before.before.before.before.before.before.before)))
 
 returns-5 : tie.Need-returns
-returns-5 c = 
+returns-5 c =
     simp (c.spend-next.ensures, c.only_of-u.ensures, c.charge_on-charge.ensures, c.charged_units-c.ensures)
     (used_yes c.args.a c.args.k c.args.n (somewhere c.before.before.before.before.before.before.before.before.before.before.before.before.before.before.before) (in_range c.before.before.before.before.before.before.before.before.before.before.before.before.before) (in_room c.before.before.before.before.before.before.before.before.before.before.before) (omega (arith, cost_eq c.before.before.before.before.before.before.before.before.before, c.if-b-a.false)))
 

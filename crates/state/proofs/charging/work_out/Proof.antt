@@ -46,7 +46,7 @@ surcharges-from-requires c κs = rw (basis_eq c.before) (basis_fits _ _ c.requir
 
 returns : tie.Need-returns
 unfolding bill_of home_after extra_after
-returns c = 
+returns c =
     simp (c.counted_of-counted.ensures, c.surcharges_from-extra.ensures, c.home_of-home.ensures, basis_eq c.before.before.before, fresh_eq c.before.before.before.before.before.before.before, billed_eq c.before.before.before.before.before.before.before.before, c.roaming_of-zone.ensures, c.billable_of-borne.ensures)
 
 pub work_out_spec : {M : Type 1} → statement M

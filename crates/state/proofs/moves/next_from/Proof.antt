@@ -9,15 +9,15 @@ use Rattle.state.proofs.moves.next_from.Statement.{statement}
 use Rattle.state.proofs.moves.next_from.Tie as tie
 
 add_least : tie.Need-overflow_add-a
-add_least c = 
+add_least c =
     let f = counters_tell c.args.a c.requires.0.counters in omega (arith, f.logged_ok)
 
 services-next-requires : tie.Need-services_next-services-requires
-services-next-requires c κs = 
+services-next-requires c κs =
     (rw c.least-n.ensures (omega arith), rw c.least-n.ensures c.requires.0.within, c.requires.1)
 
 allowance-of-requires : tie.Need-allowance_of-fresh-requires
-allowance-of-requires c κs = 
+allowance-of-requires c κs =
     let r = plan_of_state c.args.a (counters_tell c.args.a c.requires.0.counters) in
     rw c.caps_of-caps.ensures (omega (arith, r, caps_bound (c.args.a.day + 1)))
 

@@ -34,7 +34,7 @@ returns-3 c = let a = c.args.a in
     simp (ne_eqb a.money.paid (a.money.credit + a.money.homecharges + a.money.surcharges) (λ h. omega arith), and-false)
 
 add-result : tie.Need-overflow_add-result
-add-result c = 
+add-result c =
     let f = counters_tell c.args.a c.requires in
     omega (arith, c.home_of-home.ensures, c.surcharges_from-extra.ensures, home_charges_bounded c.args.a.plan c.args.a.meters.billed (billed_held c.args.a f), surcharges_bounded c.args.a.meters.basis (basis_held c.args.a f))
 

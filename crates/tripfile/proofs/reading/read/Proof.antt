@@ -1,6 +1,6 @@
 -- `tripfile::reading::read` meets its contract. Assumes nothing.
 use mathlib.Core.Path.{◌≡◌, sym, ◌∙◌, ap}
-use mathlib.Core.Bool.{true, ◌&&◌}
+use mathlib.Core.Bool.{true}
 use Rattle.tariff.specs.Tests.{is_accepted}
 use Rattle.tariff.specs.declared.Verdict.TheVariants.{Accepted}
 use Rattle.tariff.proofs.Tests.{and_left, and_right}
