@@ -1,4 +1,6 @@
 // A family box: one account, and up to 16 cards that share it, a lent list of records (family-1 to family-14).
+#![tactic(auto)]
+
 pub mod seen;
 
 ghost use Rattle.std.specs.Prelude.{◌≡◌, length};

@@ -32,7 +32,7 @@ use Rattle.account.proofs.Search.{largest_same}
 use Rattle.account.proofs.Kept.{no_plan_unsound}
 use Rattle.cards.specs.declared.Card.{Card}
 use Rattle.cards.specs.Cards.{cards_units, allowances_fit, cards_sound, used, use_at, cleared, fresh}
-use Rattle.family.specs.declared.BoxCall.TheVariants.{Register, Use, TopUp, NextDay, Afford}
+use Rattle.family.specs.declared.BoxCall.TheVariants.{Use}
 use Rattle.family.specs.Box.{Box, box_of, plain, box_sound, no_such_card, beyond, before, with_allowance, box_reasons, box_verdict, box_accepts, cards_after, box_after, box_step}
 use Rattle.family.specs.Answers.{card_reasons, open_reasons, open_verdict, open_box, box_afford, box_answer, box_applied}
 use Rattle.family.proofs.Accepts.{BoxSound, box_tells, has_account}

@@ -1,4 +1,6 @@
 // Lists of calls on a family box: claims about every box and list, stated in specs/Demand3.antt and specs/Claims.antt.
+#![tactic(auto)]
+
 ghost use Rattle.family_ledger.specs.Demand3.{FamilyDemand3, FamilyFromSound, FamilyOneMoreThanCuts};
 ghost use Rattle.family_ledger.specs.Demand3.{FamilyEndIsCompared};
 ghost use Rattle.family_ledger.specs.Claims.{OtherCardsStay, AllowancesStay, CardAffordIsLargest, OneCardIsPlain};
