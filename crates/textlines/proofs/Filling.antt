@@ -80,12 +80,6 @@ begun t cs ns = record {
   numbers_done = sym (placed_none ns 0);
 }
 
-pub room : {t cs₀ ns₀ cs ns : List ℕ} {i at : ℕ} → Filling t cs₀ ns₀ cs ns i at → length (lines_of t) ≤ length cs₀ → length (lines_of t) ≤ length ns₀
-    → (l : List ℕ) (ls : List (List ℕ)) → lines_of (drop at t) ≡ l ∷ ls → (i < length cs) × (i < length ns)
-room f hc hn l ls e =
-    let z = ap length e in
-    (omega (arith, f.count, f.many_codes), omega (arith, f.count, f.many_numbers))
-
 pub filled_more : {t cs₀ ns₀ cs ns : List ℕ} {i at : ℕ} → Filling t cs₀ ns₀ cs ns i at → length (lines_of t) ≤ length cs₀ → length (lines_of t) ≤ length ns₀
     → (l : List ℕ) (r code number : ℕ) → at < r → r ≤ length t → lines_of (drop at t) ≡ l ∷ lines_of (drop r t)
     → code ≡ code_in l → number ≡ number_in code l

@@ -4,9 +4,8 @@ use mathlib.Core.Path.{◌≡◌, refl, sym, ◌∙◌, ap}
 use mathlib.Core.Bool.{Bool, true, false, ◌&&◌}
 use mathlib.Core.List.{List, [], ◌∷◌, ◌++◌, append_assoc}
 use Prim.Native.Nat.{ℕ, zero, suc, ◌+◌, ◌-◌, ◌≤◌, ◌<◌, min}
-use native.Mathlib.Numerals.{add-one}
 use native.Mathlib.Omega.{arith}
-use lib.ListN.{length, get_or, take, drop, length-append, length-drop, length-take, take-append-drop}
+use lib.ListN.{length, get_or, take, drop, length-append, length-drop, take-append-drop}
 use lib.Seq.{take_at, take_all, take-suc, drop_at, get_or-drop, get_or-append_seam}
 use lib.Dec.{eqb, leb}
 use borrow.Author.Tests.{eqb-true, eq-eqb, ne_eqb, leb-true}
@@ -175,12 +174,6 @@ line_long c =
     ∙ omega (arith, length-append (decimal c.number) (10 ∷ []))
 
 -- ---- what the code finds
-
--- the first n elements, of which there are n
-pub named : (n : ℕ) (bs h : List ℕ) → take n bs ≡ h → n ≡ length h → (n ≤ length bs) × (n ≡ length (take n bs))
-named n bs h e f =
-    let g : length (take n bs) ≡ length h = ap length e in
-    (omega (arith, length-take n bs), omega arith)
 
 -- the part of a line between comma and line feed, where there is one
 pub no_digits : (c : ℕ) (l : List ℕ) → length l ≤ length (heading c) → digits_in c l ≡ []

@@ -2,7 +2,7 @@
 use mathlib.Core.Path.{◌≡◌, refl, sym, ◌∙◌, ap}
 use mathlib.Core.Bool.{Bool, true, false, cond, ◌&&◌, ◌||◌, not}
 use mathlib.Core.List.{List, [], ◌∷◌, ◌++◌}
-use Prim.Native.Nat.{ℕ, zero, suc, ◌+◌, ◌-◌, ◌≤◌}
+use Prim.Native.Nat.{ℕ, zero, suc, ◌+◌, ◌≤◌}
 use native.Mathlib.Omega.{arith}
 use lib.ListN.{length, take, drop}
 use lib.Seq.{take_at}
@@ -17,7 +17,7 @@ use Rattle.tripfile.specs.declared.Written.TheVariants as Wrote
 use Rattle.tripfile.specs.Bodies.{Call, call_right, calls_right, paired, codes_of, numbers_of}
 use Rattle.tripfile.specs.Writing.{write_answer, filled_or_kept}
 use Rattle.tripfile.proofs.Listed.{length-paired, codes_paired, numbers_paired, paired_again, length_codes, length-numbers}
-use Rattle.textlines.specs.declared.TextRead.TheVariants.{Calls, Refused}
+use Rattle.textlines.specs.declared.TextRead.TheVariants.{Calls}
 use Rattle.text.specs.Text.{placed}
 use Rattle.textlines.specs.Line.{line, call_in, right_line}
 use Rattle.textlines.specs.Text.{text_of, lines_of, right_lines, calls_in, calls_of, size_right, reading_reasons, reading_answer, reading_of, export_reasons, export_verdict, exported_of, buffer_of}

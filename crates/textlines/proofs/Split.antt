@@ -2,12 +2,13 @@
 use mathlib.Core.Path.{◌≡◌, refl, sym, ◌∙◌, ap}
 use mathlib.Core.Bool.{Bool, true, false}
 use mathlib.Core.List.{List, [], ◌∷◌, ◌++◌, append_assoc}
-use Prim.Native.Nat.{ℕ, suc, ◌+◌, ◌-◌, ◌≤◌, ◌<◌}
+use Prim.Native.Nat.{ℕ, zero, suc, ◌+◌, ◌-◌, ◌≤◌, ◌<◌}
 use native.Mathlib.Omega.{arith}
-use lib.ListN.{length, take, drop, length-drop, drop_of_length-le}
-use lib.Seq.{take-length, take_all, drop-drop}
+use lib.ListN.{length, get_or, take, drop, length-drop, drop_of_length-le}
+use lib.Seq.{take_all, drop-drop}
 use lib.Dec.{eqb}
-use Rattle.bytes.specs.Bytes.{slice, index_of, index_after}
+use borrow.Author.Tests.{eq-eqb}
+use Rattle.std.proofs.lemmas.Bool.{ne_eqb}
 use Rattle.tripfile.specs.Bodies.{Call}
 use Rattle.textlines.specs.Line.{line, right_line}
 use Rattle.textlines.specs.Text.{text_of, onto, lines_of, right_lines}
@@ -40,53 +41,45 @@ lines_text c cs =
 
 -- ---- the first line of a text
 
-first_ended : (s : List ℕ) → index_of 10 s < length s → lines_of s ≡ take (suc (index_of 10 s)) s ∷ lines_of (drop (suc (index_of 10 s)) s)
-unfolding index_of index_after
-first_ended [] l = absurd (omega arith)
-first_ended (x ∷ s) l = go (eqb x 10) refl l (first_ended s)
-  where
-    go : (b : Bool) → eqb x 10 ≡ b → index_after b (index_of 10 s) < suc (length s)
-        → (index_of 10 s < length s → lines_of s ≡ take (suc (index_of 10 s)) s ∷ lines_of (drop (suc (index_of 10 s)) s))
-        → lines_of (x ∷ s) ≡ take (suc (index_after b (index_of 10 s))) (x ∷ s) ∷ lines_of (drop (suc (index_after b (index_of 10 s))) (x ∷ s))
-    go true e l ih = lines_feed s x e
-    go false e l ih = lines_other s x e ∙ ap (onto x) (ih (omega arith))
+-- no line feed stands in the first e bytes
+abbrev pub NoFeed : List ℕ → ℕ → Type 0
+NoFeed s e = (k : ℕ) → k < e → get_or s k 0 ≡ 10 → ⊥
 
-first_unended : (x : ℕ) (s : List ℕ) → length (x ∷ s) ≤ index_of 10 (x ∷ s) → lines_of (x ∷ s) ≡ (x ∷ s) ∷ []
-unfolding index_of index_after
-first_unended x [] l = go (eqb x 10) refl l
-  where
-    go : (b : Bool) → eqb x 10 ≡ b → 1 ≤ index_after b 0 → lines_of (x ∷ []) ≡ (x ∷ []) ∷ []
-    go true e l = absurd (omega arith)
-    go false e l = lines_other [] x e ∙ ap (onto x) nothing
-first_unended x (y ∷ s) l = go (eqb x 10) refl l (first_unended y s)
-  where
-    go : (b : Bool) → eqb x 10 ≡ b → suc (suc (length s)) ≤ index_after b (index_of 10 (y ∷ s))
-        → (suc (length s) ≤ index_of 10 (y ∷ s) → lines_of (y ∷ s) ≡ (y ∷ s) ∷ []) → lines_of (x ∷ y ∷ s) ≡ (x ∷ y ∷ s) ∷ []
-    go true e l ih = absurd (omega arith)
-    go false e l ih = lines_other (y ∷ s) x e ∙ ap (onto x) (ih (omega arith))
+-- a line that ends in a line feed
+first_ended : (s : List ℕ) (e : ℕ) → NoFeed s e → e < length s → get_or s e 0 ≡ 10
+    → lines_of s ≡ take (suc e) s ∷ lines_of (drop (suc e) s)
+first_ended [] e f l h = absurd (omega arith)
+first_ended (x ∷ s) zero f l h = lines_feed s x (eq-eqb x 10 h)
+first_ended (x ∷ s) (suc e) f l h =
+    lines_other s x (ne_eqb x 10 (f 0 (omega arith))) ∙ ap (onto x) (first_ended s e (λ k m. f (suc k) (omega arith)) (omega arith) h)
 
-whole_slice : (t : List ℕ) (at : ℕ) → slice at (length t) t ≡ drop at t
-unfolding slice
-whole_slice t at = ap (drop at) (take-length t)
+-- the last line, without one
+first_unended : (x : ℕ) (s : List ℕ) → NoFeed (x ∷ s) (length (x ∷ s)) → lines_of (x ∷ s) ≡ (x ∷ s) ∷ []
+first_unended x [] f = lines_other [] x (ne_eqb x 10 (f 0 (omega arith))) ∙ ap (onto x) nothing
+first_unended x (y ∷ s) f =
+    lines_other (y ∷ s) x (ne_eqb x 10 (f 0 (omega arith))) ∙ ap (onto x) (first_unended y s (λ k m. f (suc k) (omega arith)))
 
-pub ended_at : (t : List ℕ) (at e : ℕ) → e ≡ at + index_of 10 (slice at (length t) t) → at < length t → e < length t
-    → lines_of (drop at t) ≡ take (e + 1 - at) (drop at t) ∷ lines_of (drop (e + 1) t)
-ended_at t at e f l m =
-    let g : e ≡ at + index_of 10 (drop at t) = f ∙ ap (λ (x : List ℕ). at + index_of 10 x) (whole_slice t at) in
-    let k : e + 1 - at ≡ suc (index_of 10 (drop at t)) = omega arith in
-    let j : e + 1 ≡ at + suc (index_of 10 (drop at t)) = omega arith in
-    rw (k, j, ← drop-drop (suc (index_of 10 (drop at t))) at t) (first_ended (drop at t) (omega (arith, length-drop at t)))
+-- what `&t[at..]` lends
+pub rest_all : (t : List ℕ) (at : ℕ) → take (length t - at) (drop at t) ≡ drop at t
+rest_all t at = take_all (length t - at) (drop at t) (simp length-drop (omega arith))
 
-pub unended_at : (t : List ℕ) (at e : ℕ) → e ≡ at + index_of 10 (slice at (length t) t) → at < length t → length t ≤ e → e ≤ length t
-    → lines_of (drop at t) ≡ take (e - at) (drop at t) ∷ lines_of (drop e t)
+pub ended_at : (t : List ℕ) (at e : ℕ) → NoFeed (drop at t) e → at + e < length t → get_or (drop at t) e 0 ≡ 10
+    → lines_of (drop at t) ≡ take (at + e + 1 - at) (drop at t) ∷ lines_of (drop (at + e + 1) t)
+ended_at t at e f l h =
+    let k : at + e + 1 - at ≡ suc e = omega arith in
+    let j : at + e + 1 ≡ at + suc e = omega arith in
+    rw (k, j, ← drop-drop (suc e) at t) (first_ended (drop at t) e f (omega (arith, length-drop at t)) h)
+
+pub unended_at : (t : List ℕ) (at e : ℕ) → NoFeed (drop at t) e → at < length t → length t ≤ at + e → e ≤ length (drop at t)
+    → lines_of (drop at t) ≡ take (at + e - at) (drop at t) ∷ lines_of (drop (at + e) t)
 unended_at t at e f l m n =
-    let g : e ≡ at + index_of 10 (drop at t) = f ∙ ap (λ (x : List ℕ). at + index_of 10 x) (whole_slice t at) in
     let long = length-drop at t in
-    rw (take_all (e - at) (drop at t) (omega arith), drop_of_length-le t m, nothing) (one (drop at t) (omega arith) (omega arith))
+    let k : e ≡ length (drop at t) = omega arith in
+    rw (take_all (at + e - at) (drop at t) (omega arith), drop_of_length-le t m, nothing) (one (drop at t) (omega arith) (rw k at f))
   where
-    one : (s : List ℕ) → 0 < length s → length s ≤ index_of 10 s → lines_of s ≡ s ∷ []
-    one [] h k = absurd (omega arith)
-    one (x ∷ s) h k = first_unended x s k
+    one : (s : List ℕ) → 0 < length s → NoFeed s (length s) → lines_of s ≡ s ∷ []
+    one [] h g = absurd (omega arith)
+    one (x ∷ s) h g = first_unended x s g
 
 -- ---- the lines together are the text
 

@@ -1,4 +1,6 @@
 // The calls of a calls section as lines of text: reading such a text, and exporting calls as one (02, 6/13).
+#![tactic(auto)]
+
 pub mod claims;
 pub mod export;
 mod line;

@@ -1,10 +1,24 @@
 // Reading a text.
-ghost use Rattle.std.specs.Prelude.{◌≡◌, ◌∷◌, ◌-◌, ◌≤◌, ◌<◌, length, take, drop};
+ghost use Rattle.std.specs.Prelude.{◌≡◌, ◌≢◌, ℕ, ◌∷◌, ◌-◌, ◌≤◌, ◌<◌, length, take, drop, slice_index};
 ghost use Rattle.text.specs.Text.{placed};
 ghost use Rattle.tripfile.specs.Bodies.{codes_of, numbers_of};
 ghost use Rattle.textlines.specs.Text.{lines_of, right_lines, calls_of, reading_of, list_after};
 
 use super::{TextRead, line};
+
+// How many bytes come before the first line feed, or all where there is none.
+fn before_feed(text: &[u8]) -> usize
+    ensures within { result ≤ length text.now }
+    ensures before { (k : ℕ) → k < result → slice_index text.now k ≢ 10 }
+    ensures found { result < length text.now → slice_index text.now result ≡ 10 }
+{
+    for (i, b) in text.iter().enumerate() {
+        if *b == 10 {
+            return i;
+        }
+    }
+    text.len()
+}
 
 // Where the line that starts at a place ends.
 fn line_end(text: &[u8], at: usize) -> usize
@@ -14,7 +28,7 @@ fn line_end(text: &[u8], at: usize) -> usize
         ≡ take (result - at) (drop at text.now) ∷ lines_of (drop result text.now) }
 {
     let n = text.len();
-    let e = bytes::scan::find(text, at, n, 10);
+    let e = at + before_feed(&text[at..]);
     if e < n { e + 1 } else { e }
 }
 
