@@ -2,117 +2,100 @@
 use account::Call;
 use presence::Location;
 use state::{Answer, Charge, State};
+use std::io;
 use tariff::{Allowance, Kind, Place};
 
-pub fn text(s: &[u8]) {
-    io::write_all(1, s);
-}
-
-pub fn number(name: &[u8], n: u64) {
-    io::write_all(1, name);
-    io::print_decimal(1, n);
-}
-
-fn place(p: Place) {
+fn place(p: Place) -> &'static str {
     match p {
-        Place::Home => text(b"home"),
-        Place::Zone => text(b"zone"),
-        Place::Elsewhere => text(b"elsewhere"),
+        Place::Home => "home",
+        Place::Zone => "zone",
+        Place::Elsewhere => "elsewhere",
     }
 }
 
-fn location(l: Location) {
+fn location(l: Location) -> &'static str {
     match l {
-        Location::Nowhere => text(b"none"),
+        Location::Nowhere => "none",
         Location::At(p) => place(p),
     }
 }
 
-fn limit(l: Allowance) {
+fn limit(rt: &impl Print, l: Allowance) -> io::Result<()> {
     match l {
-        Allowance::NoLimit => text(b", limit none"),
-        Allowance::Kilobytes(n) => number(b", limit ", n),
+        Allowance::NoLimit => print!(rt; ", limit none"),
+        Allowance::Kilobytes(n) => print!(rt; ", limit {n}"),
     }
 }
 
-// A use: its kind and units.
-fn use_name(k: Kind, n: u64) {
+// A use's kind, as it stands before the units.
+fn use_name(k: Kind) -> &'static str {
     match k {
-        Kind::Data => number(b"data ", n),
-        Kind::Outgoing => number(b"out ", n),
-        Kind::Incoming => number(b"in ", n),
-        Kind::Sms => number(b"sms ", n),
+        Kind::Data => "data",
+        Kind::Outgoing => "out",
+        Kind::Incoming => "in",
+        Kind::Sms => "sms",
     }
 }
 
-fn unit(k: Kind) {
+fn unit(k: Kind) -> &'static str {
     match k {
-        Kind::Data => text(b" kB"),
-        Kind::Outgoing => text(b" s"),
-        Kind::Incoming => text(b" s"),
-        Kind::Sms => text(b" SMS"),
+        Kind::Data => " kB",
+        Kind::Outgoing => " s",
+        Kind::Incoming => " s",
+        Kind::Sms => " SMS",
     }
 }
 
 // The unit of the call's kind, if it is a use.
-fn unit_of(c: Call) {
+fn unit_of(c: Call) -> &'static str {
     match c {
         Call::Use(k, _) => unit(k),
-        _ => {}
+        _ => "",
     }
 }
 
 // A call: its name, and its place, units or amount.
-pub fn call(c: Call) {
+pub fn call(rt: &impl Print, c: Call) -> io::Result<()> {
     match c {
-        Call::Register(p) => {
-            text(b"register ");
-            place(p);
-        }
-        Call::Use(k, n) => use_name(k, n),
-        Call::TopUp(n) => number(b"topup ", n),
-        Call::NextDay => text(b"nextday"),
-        Call::Afford(_) => text(b"afford"),
+        Call::Register(p) => print!(rt; "register {}", place(p)),
+        Call::Use(k, n) => print!(rt; "{} {n}", use_name(k)),
+        Call::TopUp(n) => print!(rt; "topup {n}"),
+        Call::NextDay => print!(rt; "nextday"),
+        Call::Afford(_) => print!(rt; "afford"),
     }
 }
 
 // What an accepted use took, for what, and whether the limit was reached by it.
-fn charge(c: Call, x: Charge) {
-    number(b", home ", x.home);
-    number(b", extra ", x.extra);
-    number(b", charged ", x.charged);
-    unit_of(c);
-    number(b", surcharged ", x.surcharged);
-    unit_of(c);
-    if x.notice {
-        text(b", notice");
-    }
+fn charge(rt: &impl Print, c: Call, x: Charge) -> io::Result<()> {
+    let unit = unit_of(c);
+    let notice = if x.notice { ", notice" } else { "" };
+    print!(rt;
+        ", home {}, extra {}, charged {}{unit}, surcharged {}{unit}{notice}",
+        x.home, x.extra, x.charged, x.surcharged
+    )
 }
 
 // The answer to a call, up to the end of its line.
-pub fn answer(c: Call, x: Answer) {
+pub fn answer(rt: &impl Print, c: Call, x: Answer) -> io::Result<()> {
     match x {
-        Answer::Done => text(b": accepted"),
+        Answer::Done => print!(rt; ": accepted")?,
         Answer::Charged(taken) => {
-            text(b": accepted");
-            charge(c, taken);
+            print!(rt; ": accepted")?;
+            charge(rt, c, taken)?;
         }
-        Answer::UpTo(n) => number(b": up to ", n),
-        Answer::Refused(n) => number(b": refused ", n),
+        Answer::UpTo(n) => print!(rt; ": up to {n}")?,
+        Answer::Refused(n) => print!(rt; ": refused {n}")?,
     }
-    text(b"\n");
+    println!(rt; "")
 }
 
 // The account after a call, in a line of its own.
-pub fn after(s: State) {
-    let at = s.place;
-    let quota = s.quota;
-    let allowance = quota.allowance;
-    number(b"    day ", s.day);
-    text(b", place ");
-    location(at);
-    number(b", credit ", s.money.credit);
-    limit(allowance);
-    number(b", roamed ", s.quota.roamed);
-    text(b"\n");
+pub fn after(rt: &impl Print, s: State) -> io::Result<()> {
+    let place = location(s.place);
+    print!(rt;
+        "    day {}, place {place}, credit {}",
+        s.day, s.money.credit
+    )?;
+    limit(rt, s.quota.allowance)?;
+    println!(rt; ", roamed {}", s.quota.roamed)
 }

@@ -2,22 +2,20 @@
 // why not: `plan`, `file` or `text`, the number that declines it and, of 22, `line` and that line's number. The plan is
 // that of the seven numbers that the program is started with, or without any that of the trip file on descriptor 3. It
 // only reads, calls and writes; the file is proved in `conversion`. `./import` adds the words of a number.
+#![tactic(auto)]
+
 use conversion::Imported;
+use std::env::FillError;
+use std::rt::{Env, Files};
+use std::{fs, io};
 use tariff::{Plan, PlanAnswer, Terms};
 use tripfile::Read;
 
-// A line that tells why nothing is written.
-fn tell(what: &[u8], number: u64) {
-    io::write_all(2, what);
-    io::print_decimal(2, number);
-    io::write_all(2, b"\n");
-}
-
 // The i-th number that the program is started with. A word that is missing, no number, or one of over 20 digits counts
 // as a number that every range declines.
-fn argument(i: usize) -> u64 {
+fn argument(rt: &impl Env, i: usize) -> u64 {
     let mut digits = [0u8; 20];
-    let n = os::arg(i, &mut digits);
+    let n = rt.arg(i, &mut digits).unwrap_or(0);
     let figure = text::read_decimal(&digits[..n]);
     if figure.right {
         figure.value
@@ -26,15 +24,20 @@ fn argument(i: usize) -> u64 {
     }
 }
 
+// Is the program started with an i-th word?
+fn has_argument(rt: &impl Env, i: usize) -> bool {
+    !matches!(rt.arg(i, &mut [0u8; 20]), Err(FillError::NotPresent))
+}
+
 // The plan of the seven numbers, or what declines it.
-fn plan_of_arguments() -> PlanAnswer {
-    let form = argument(1);
-    let start = argument(2);
-    let pergb = argument(3);
-    let perminute = argument(4);
-    let persms = argument(5);
-    let fee = argument(6);
-    let volume = argument(7);
+fn plan_of_arguments(rt: &impl Env) -> PlanAnswer {
+    let form = argument(rt, 1);
+    let start = argument(rt, 2);
+    let pergb = argument(rt, 3);
+    let perminute = argument(rt, 4);
+    let persms = argument(rt, 5);
+    let fee = argument(rt, 6);
+    let volume = argument(rt, 7);
     tariff::plans::plan_from(Terms {
         form,
         start,
@@ -47,50 +50,51 @@ fn plan_of_arguments() -> PlanAnswer {
 }
 
 // Writes the trip file of the plan and the text.
-fn import_under(plan: Plan, lines: &[u8]) {
+fn import_under(rt: &(impl Print + Eprint), plan: Plan, lines: &[u8]) -> io::Result<()> {
     // Room for every file, so that 16 is never told.
     let mut file = [0u8; 65536];
     let imported = conversion::importing::import_text(plan, lines, &mut file);
     match imported {
         Imported::Bytes(k) => {
-            if !io::write_all(1, &file[..k]) {
-                io::write_all(2, b"import: cannot write the file\n");
+            if rt.write_all(&file[..k]).is_err() {
+                eprintln!(rt; "import: cannot write the file")?;
             }
+            Ok(())
         }
-        Imported::BadLine(line) => tell(b"text 22 line ", line as u64),
-        Imported::Text(number) => tell(b"text ", number),
-        Imported::Refused(number) => tell(b"plan ", number),
+        Imported::BadLine(line) => eprintln!(rt; "text 22 line {line}"),
+        Imported::Text(number) => eprintln!(rt; "text {number}"),
+        Imported::Refused(number) => eprintln!(rt; "plan {number}"),
     }
 }
 
 // The same under the plan of the trip file on descriptor 3.
-fn import_from_file(lines: &[u8]) {
+fn import_from_file(rt: &(impl Files + Print + Eprint), lines: &[u8]) -> io::Result<()> {
     let mut file = [0u8; 65540];
-    let n = io::read_full(3, &mut file);
+    let n = intake::read_start(&mut fs::open(rt, "/dev/fd/3")?, &mut file)?;
     let read = tripfile::reading::read(&file[..n]);
     match read {
-        Read::Trip { plan, calls: _ } => import_under(plan, lines),
-        Read::Refused(number) => tell(b"file ", number),
+        Read::Trip { plan, calls: _ } => import_under(rt, plan, lines),
+        Read::Refused(number) => eprintln!(rt; "file {number}"),
     }
 }
 
 // The same under the plan of the seven numbers.
-fn import_from_arguments(lines: &[u8]) {
-    let answer = plan_of_arguments();
+fn import_from_arguments(rt: &(impl Env + Print + Eprint), lines: &[u8]) -> io::Result<()> {
+    let answer = plan_of_arguments(rt);
     match answer {
-        PlanAnswer::Granted(plan) => import_under(plan, lines),
-        PlanAnswer::Refused(number) => tell(b"plan ", number),
+        PlanAnswer::Granted(plan) => import_under(rt, plan, lines),
+        PlanAnswer::Refused(number) => eprintln!(rt; "plan {number}"),
     }
 }
 
-fn main() {
+fn main(rt: HostRuntime) -> io::Result<()> {
     // Four bytes more than the longest text, so that a longer one is told from it. It is read also where the plan is
     // declined, so that whoever sends it is not cut off.
     let mut lines = [0u8; 65540];
-    let n = io::read_full(0, &mut lines);
-    if os::arg_count() == 1 {
-        import_from_file(&lines[..n]);
+    let n = intake::read_start(&mut rt.stdin(), &mut lines)?;
+    if has_argument(&rt, 1) {
+        import_from_arguments(&rt, &lines[..n])
     } else {
-        import_from_arguments(&lines[..n]);
+        import_from_file(&rt, &lines[..n])
     }
 }

@@ -7,10 +7,13 @@
 // The stored output comes from the second implementation (reference/src/stored.rs), and its figures were worked out by
 // hand: 100 kB at 1,000,000 points a GB cost 95 of the 100,000 points; 100 top-ups add 100,000; 100 days after day 181
 // + 130; and 104,858 kB cost 100,000 points, one more 100,001.
+#![tactic(auto)]
+
 ghost use Rattle.std.specs.Prelude.{◌≡◌, ◌<◌, ◌≤◌, length};
 
 use account::Account;
 use state::{Answer, State};
+use std::io;
 use tariff::{Form, Kind, Place, Plan};
 
 // How many calls were accepted, and a figure that shows what they did.
@@ -189,18 +192,13 @@ fn digit(x: u8) -> u64
     (x - 48) as u64
 }
 
-fn show(letter: u8, t: Tally) {
-    let name = [letter];
-    io::write_all(1, &name);
-    io::write_all(1, b" ");
-    io::print_decimal(1, t.accepted);
-    io::write_all(1, b" ");
-    io::print_decimal(1, t.shown);
-    io::write_all(1, b"\n");
+fn show(rt: &impl Print, letter: u8, t: Tally) -> io::Result<()> {
+    rt.write_all(&[letter])?;
+    println!(rt; " {} {}", t.accepted, t.shown)
 }
 
 // The calls of one pair, on an account of their own.
-fn run_pair(letter: u8, hundreds: u8) {
+fn run_pair(rt: &impl Print, letter: u8, hundreds: u8) -> io::Result<()> {
     let form = Form::Prepaid;
     let plan = Plan {
         form: form,
@@ -213,19 +211,20 @@ fn run_pair(letter: u8, hundreds: u8) {
     };
     let opened = Account::open(plan);
     let full = filled(opened.account);
-    show(letter, calls(full, letter, 100 * digit(hundreds)));
+    show(rt, letter, calls(full, letter, 100 * digit(hundreds)))
 }
 
-fn run_pairs(asked: &[u8]) {
+fn run_pairs(rt: &impl Print, asked: &[u8]) -> io::Result<()> {
     let mut at: usize = 0;
     while 2 <= asked.len() - at {
-        run_pair(asked[at], asked[at + 1]);
+        run_pair(rt, asked[at], asked[at + 1])?;
         at += 2;
     }
+    Ok(())
 }
 
-fn main() {
+fn main(rt: HostRuntime) -> io::Result<()> {
     let mut asked = [0u8; 64];
-    let n = io::read_full(0, &mut asked);
-    run_pairs(&asked[..n]);
+    let n = intake::read_start(&mut rt.stdin(), &mut asked)?;
+    run_pairs(&rt, &asked[..n])
 }

@@ -1,48 +1,31 @@
 // Runs the stored trip files on standard input, each after its length as a little-endian word, and prints a line for
 // each: `file` and its number, or the nine figures, where a limit of none is the word `none`.
+#![tactic(auto)]
+
 ghost use Rattle.std.specs.Prelude.{◌<◌, ◌≤◌, length};
 
 use report::{Figures, Report};
+use std::io;
 use tariff::Allowance;
 
-fn figure(n: u64) {
-    io::write_all(1, b" ");
-    io::print_decimal(1, n);
-}
-
-fn limit_figure(l: Allowance) {
+fn limit_figure(rt: &impl Print, l: Allowance) -> io::Result<()> {
     match l {
-        Allowance::NoLimit => {
-            io::write_all(1, b" none");
-        }
-        Allowance::Kilobytes(n) => {
-            figure(n);
-        }
+        Allowance::NoLimit => print!(rt; " none"),
+        Allowance::Kilobytes(n) => print!(rt; " {n}"),
     }
 }
 
-fn nine(f: Figures) {
-    let limit = f.limit;
-    io::print_decimal(1, f.day);
-    figure(f.paid);
-    figure(f.credit);
-    figure(f.home);
-    figure(f.extra);
-    limit_figure(limit);
-    figure(f.roamed);
-    figure(f.past);
-    figure(f.refused as u64);
+fn nine(rt: &impl Print, f: Figures) -> io::Result<()> {
+    print!(rt; "{} {} {} {} {}", f.day, f.paid, f.credit, f.home, f.extra)?;
+    limit_figure(rt, f.limit)?;
+    println!(rt; " {} {} {}", f.roamed, f.past, f.refused)
 }
 
-fn show(r: Report) {
+fn show(rt: &impl Print, r: Report) -> io::Result<()> {
     match r {
-        Report::Lines(f) => nine(f),
-        Report::Refused(n) => {
-            io::write_all(1, b"file");
-            figure(n);
-        }
+        Report::Lines(f) => nine(rt, f),
+        Report::Refused(n) => println!(rt; "file {n}"),
     }
-    io::write_all(1, b"\n");
 }
 
 fn wide(x: u8) -> usize
@@ -59,22 +42,23 @@ fn length_of(s: &[u8], at: usize) -> usize
 }
 
 // Each stored file, up to one that is cut off.
-fn run_cases(s: &[u8]) {
+fn run_cases(rt: &impl Print, s: &[u8]) -> io::Result<()> {
     let mut at: usize = 0;
     while 4 <= s.len() - at {
         let a = at + 4;
         let n = length_of(s, a);
         if n > s.len() - a {
-            return;
+            return Ok(());
         }
         let e = a + n;
-        show(report::statement_of(&s[a..e]));
+        show(rt, report::statement_of(&s[a..e]))?;
         at = e;
     }
+    Ok(())
 }
 
-fn main() {
+fn main(rt: HostRuntime) -> io::Result<()> {
     let mut all = [0u8; 262144];
-    let n = io::read_full(0, &mut all);
-    run_cases(&all[..n]);
+    let n = intake::read_start(&mut rt.stdin(), &mut all)?;
+    run_cases(&rt, &all[..n])
 }

@@ -1,0 +1,12 @@
+-- The bytes read so far are the input's first, and stand at the buffer's start; each read takes some of the room left.
+use Rattle.std.proofs.Common.{length, ◌-◌, ◌≤◌, take, ◌≡◌}
+use Rattle.std.specs.Io.KnownBytes.{Consumes}
+use Rattle.intake.proofs.read_start.Given as goal
+
+abbrev pub invariant-loop-at : goal.invariant-loop-at
+invariant-loop-at g l =
+    (length l.buf ≡ length l.initial.buf) × (l.at ≤ length l.buf)
+    × Consumes (g.R.Read.remaining l.initial.input) (g.R.Read.remaining l.input) (take l.at l.buf)
+
+abbrev pub decreases-loop-at : goal.decreases-loop-at
+decreases-loop-at g l = length l.initial.buf - l.at
