@@ -37,7 +37,15 @@ impl Import {
 }
 
 const MODIFIERS: [&str; 5] = ["pub", "abbrev", "unfoldable", "private", "opaque"];
-const NO_PARTS: [&str; 6] = ["use ", "mod ", "pub mod ", "infix", "--", "ghost use "];
+const NO_PARTS: [&str; 7] = [
+    "use ",
+    "pub use ",
+    "mod ",
+    "pub mod ",
+    "infix",
+    "--",
+    "ghost use ",
+];
 
 /// The parts: from a line at the margin that follows an empty line or a comment to the next such line. One that declares
 /// nothing, as further lines of a definition, is called by its first word.
@@ -76,12 +84,13 @@ fn first_word(line: &str) -> BTreeSet<String> {
     word.map(spellings).unwrap_or_default()
 }
 
-/// The names that a line declares: of a record its own, of a signature what stands before the colon.
+/// The names that a line declares: of a record or a set of rules its own, of a signature what stands before the colon.
 fn signature_on(line: &str) -> BTreeSet<String> {
     let code = line.split("-- ").next().unwrap_or("");
     let mut words = code.split_whitespace().peekable();
     while words.next_if(|w| MODIFIERS.contains(w)).is_some() {}
-    if words.next_if(|w| ["record", "data"].contains(w)).is_some() {
+    let named = ["record", "data", "ruleset"];
+    if words.next_if(|w| named.contains(w)).is_some() {
         return words.next().map(spellings).unwrap_or_default();
     }
     let before: Vec<&str> = words.take_while(|w| *w != ":").collect();
@@ -93,9 +102,9 @@ fn signature_on(line: &str) -> BTreeSet<String> {
     before.into_iter().flat_map(spellings).collect()
 }
 
-/// A name, and the pieces of it that stand between its arguments.
+/// A name, and the pieces of it that stand between its arguments: of `if◌then◌else◌` if, then and else.
 fn spellings(name: &str) -> BTreeSet<String> {
-    let pieces = name.split('_').filter(|p| !p.is_empty());
+    let pieces = name.split('◌').filter(|p| !p.is_empty());
     let whole = std::iter::once(name).filter(|n| !n.is_empty());
     pieces.chain(whole).map(str::to_string).collect()
 }
@@ -108,11 +117,7 @@ pub fn words(text: &str) -> BTreeSet<String> {
         let code = code.split("// ").next().unwrap_or("");
         for word in code.split(|c: char| c.is_whitespace() || "(){}[],;.:`\"λ⌜⌝⟦⟧⟨⟩&*!".contains(c))
         {
-            if word.starts_with('_') || word.ends_with('_') {
-                found.extend(spellings(word));
-            } else if !word.is_empty() {
-                found.insert(word.to_string());
-            }
+            found.extend(spellings(word));
         }
     }
     found
@@ -126,6 +131,7 @@ pub fn imports(text: &str) -> Vec<Import> {
         let Some(rest) = line
             .strip_prefix("ghost ")
             .unwrap_or(line)
+            .trim_start_matches("pub ")
             .strip_prefix("use ")
         else {
             continue;
@@ -172,7 +178,7 @@ fn import(text: &str) -> Import {
 mod tests {
     use super::*;
 
-    const TEXT: &str = "-- Head.\nuse a.B.{c, _⊕_, d as e}\nuse a.F as tie\n\n-- one\nabbrev pub one : ℕ → ℕ\none n = tie.two n\n\npub record Claim (o : ℕ) : Type 0 where\n  pub left : ℕ\n\n  pub right : e\n\nmodule _ (n : ℕ) where\n  inside : ℕ\n  inside = n ⊕ 1\n\npub two :\n    one 1 ≡ 2\nunfolding one\ntwo = refl\n";
+    const TEXT: &str = "-- Head.\nuse a.B.{c, ◌⊕◌, d as e}\nuse a.F as tie\n\n-- one\nabbrev pub one : ℕ → ℕ\none n = tie.two n\n\npub record Claim (o : ℕ) : Type 0 where\n  pub left : ℕ\n\n  pub right : e\n\nmodule _ (n : ℕ) where\n  inside : ℕ\n  inside = n ⊕ 1\n\npub two :\n    one 1 ≡ 2\nunfolding one\ntwo = refl\n";
 
     #[test]
     fn parts_begin_at_the_margin() {

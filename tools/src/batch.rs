@@ -92,18 +92,19 @@ fn touches(a: &Tried, b: &Tried) -> bool {
     a.spans.iter().any(near) || !a.parts.is_disjoint(&b.parts)
 }
 
-/// Of each edit of a batch, the message that it is refused by. None where that cannot be told, or where the first
-/// message of it is one that shows nothing: then the edit is tried alone.
+/// Of each edit of a batch, the message that it is refused by. None where that cannot be told, or where its text may be
+/// wrong in itself: then the edit is tried alone.
 pub fn told(
     parts: &Parts,
     batch: &Batch,
     status: Option<i32>,
     output: &str,
 ) -> Vec<Option<String>> {
-    let mut found: Vec<Option<Option<String>>> = vec![None; batch.len()];
+    let mut found: Vec<Option<String>> = vec![None; batch.len()];
     if !verdict::not_proved(status, output) {
-        return vec![None; batch.len()];
+        return found;
     }
+    let mut wrong_text = BTreeSet::new();
     for error in verdict::errors(output) {
         let part = match &error.place {
             Place::Line(file, line) => parts.on_line(file, *line),
@@ -112,15 +113,16 @@ pub fn told(
         let Some(below) = part.map(|k| parts.below(k)) else {
             continue;
         };
-        let of: Vec<usize> = (0..batch.len())
-            .filter(|i| !batch[*i].parts.is_disjoint(&below))
-            .collect();
-        if !error.shows {
-            of.iter()
-                .for_each(|i| found[*i] = found[*i].take().or(Some(None)));
-        } else if let [i] = of[..] {
-            found[i] = found[i].take().or(Some(Some(error.message)));
+        let rests = |i: &usize| !batch[*i].parts.is_disjoint(&below);
+        let of: Vec<usize> = (0..batch.len()).filter(rests).collect();
+        if error.of_text() {
+            wrong_text.extend(of);
+        } else if let ([i], true) = (&of[..], error.shows) {
+            found[*i] = found[*i].take().or(Some(error.message));
         }
     }
-    found.into_iter().map(|f| f.flatten()).collect()
+    for i in wrong_text {
+        found[i] = None;
+    }
+    found
 }

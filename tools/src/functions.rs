@@ -3,7 +3,7 @@ use crate::antt::Named;
 use std::collections::BTreeSet;
 use std::ops::Range;
 
-/// A function: its path as the checker prints it, and where its head, with the contract, and its body are.
+/// A function: its path as the checker prints it, and where its head, with attributes and contract, and its body are.
 pub struct Function {
     pub path: String,
     pub head: Range<usize>,
@@ -14,15 +14,22 @@ pub struct Function {
 pub fn in_text(prefix: &str, text: &str) -> Vec<Function> {
     let mut found = Vec::new();
     let (mut at, mut owner, mut open) = (0, String::new(), None);
+    let mut attributes: Option<usize> = None;
     for line in text.split_inclusive('\n') {
         let (code, indent) = (line.trim(), line.len() - line.trim_start().len());
+        if open.is_none() && code.starts_with("#[") {
+            attributes = attributes.or(Some(at));
+        } else if code.is_empty() || item(code) {
+            attributes = None;
+        }
         if let Some(name) = code.strip_prefix("impl ") {
             owner = format!("{}::", name.trim_end_matches(['{', ' ']));
         } else if indent == 0 && code == "}" && open.is_none() {
             owner.clear();
         }
         if let Some(name) = fn_name(code) {
-            open = Some((format!("{prefix}::{owner}{name}"), indent, at, None));
+            let head = attributes.take().unwrap_or(at);
+            open = Some((format!("{prefix}::{owner}{name}"), indent, head, None));
         }
         if let Some((path, depth, head, start)) = &mut open {
             if indent == *depth && start.is_none() && (code == "{" || code == "{}") {
@@ -44,10 +51,24 @@ pub fn in_text(prefix: &str, text: &str) -> Vec<Function> {
 }
 
 fn fn_name(code: &str) -> Option<&str> {
-    let rest = code.strip_prefix("pub ").unwrap_or(code);
+    let rest = public(code);
     let rest = rest.strip_prefix("extern \"C\" ").unwrap_or(rest);
     let rest = rest.strip_prefix("fn ")?;
     rest.split(['(', '<']).next()
+}
+
+/// The line without how far it is public.
+fn public(code: &str) -> &str {
+    let rest = code.strip_prefix("pub(crate) ");
+    rest.or(code.strip_prefix("pub ")).unwrap_or(code)
+}
+
+/// Does an item begin that is no function?
+fn item(code: &str) -> bool {
+    let begins = [
+        "struct ", "enum ", "const ", "impl ", "mod ", "use ", "ghost ",
+    ];
+    begins.iter().any(|word| public(code).starts_with(word))
 }
 
 /// The constants of a file, each to the line that ends it.
@@ -55,8 +76,7 @@ pub fn constants(text: &str) -> Vec<Named> {
     let mut found: Vec<Named> = Vec::new();
     let (mut at, mut open) = (0, false);
     for line in text.split_inclusive('\n') {
-        let rest = line.strip_prefix("pub ").unwrap_or(line);
-        if let Some(name) = rest
+        if let Some(name) = public(line)
             .strip_prefix("const ")
             .and_then(|r| r.split(':').next())
         {
@@ -76,7 +96,7 @@ pub fn constants(text: &str) -> Vec<Named> {
 mod tests {
     use super::*;
 
-    const TEXT: &str = "const TWO: u64 = 2;\n\nfn low(n: u64) -> u64\n    ensures { λ r. ⌜ r ≡ n ⌝ }\n{\n    n + 1\n}\n\npub fn claim()\n    ensures { λ _. ⌜ True ⌝ }\n{}\n\nimpl Box {\n    pub fn beside(self) -> u64\n    {\n        self.n - 3\n    }\n}\n";
+    const TEXT: &str = "const TWO: u64 = 2;\n\n#[tactic(auto,\n    using(crate::proofs::Laws::low_law))]\nfn low(n: u64) -> u64\n    ensures { result ≡ n }\n{\n    n + 1\n}\n\npub fn claim()\n    ensures { Claim }\n{}\n\n#[derive(Clone, Copy)]\nstruct Box {\n    n: u64,\n}\n\nimpl Box {\n    pub(crate) fn beside(self) -> u64\n    {\n        self.n - 3\n    }\n}\n";
 
     #[test]
     fn heads_and_bodies() {
@@ -92,7 +112,9 @@ mod tests {
             })
             .collect();
         assert_eq!(texts.len(), 3);
-        assert!(texts[0].1.contains("r ≡ n") && !texts[0].1.contains("n + 1"));
+        assert!(texts[0].1.contains("result ≡ n") && !texts[0].1.contains("n + 1"));
+        assert!(texts[0].1.starts_with("#[tactic(auto"));
+        assert!(texts[2].1.starts_with("    pub(crate) fn"));
         assert_eq!((texts[0].0, texts[0].2), ("c::low", "    n + 1\n"));
         assert_eq!((texts[1].0, texts[1].2), ("c::claim", ""));
         assert_eq!(

@@ -1,7 +1,9 @@
 //! The parts of a crate, and what each rests on. A part is a definition or a lemma of specs/ or proofs/, or the contract
 //! or the body of a function. It rests on what it names, and on what that rests on; a proof of a function rests on the
-//! function's contract and body, and on the contracts alone of what that calls. Names that could be meant count as
-//! meant, so that it may be more than the checker reads, never less.
+//! function's contract and body, and on the contracts alone of what that calls. Of what the checker finds itself it tells
+//! at the function, so the body rests on all that the function's folder of proofs/ has, too, and on the lemmas that
+//! its attributes name. Names that could be meant count as meant, so that it may be more than the checker reads, never
+//! less.
 use crate::antt::{self, Import, Named};
 use crate::claims::module;
 use crate::folder;
@@ -19,7 +21,7 @@ pub struct Part {
 }
 
 /// The places of a function's contract and body among the parts.
-#[derive(Clone, Copy)]
+#[derive(Clone, Copy, PartialEq, Eq)]
 struct Places {
     contract: usize,
     body: usize,
@@ -31,6 +33,8 @@ pub struct Parts {
     rests: Vec<BTreeSet<usize>>,
     bears: Vec<BTreeSet<usize>>,
     functions: BTreeMap<String, Places>,
+    /// The functions of each cycle of calls that has a name.
+    cycles: BTreeMap<String, Vec<Places>>,
 }
 
 /// What an import of a crate's own module leads to.
@@ -38,6 +42,8 @@ enum Target {
     File(String),
     /// The functions of the module; with their bodies where it is of more than what they promise.
     Functions(Vec<Places>, bool),
+    /// What the module declares: types and constants of the code.
+    Declared,
     Elsewhere,
 }
 
@@ -49,6 +55,7 @@ impl Parts {
             rests: Vec::new(),
             bears: Vec::new(),
             functions: BTreeMap::new(),
+            cycles: BTreeMap::new(),
         };
         let mut imports = BTreeMap::new();
         for (file, text) in found.texts.clone() {
@@ -77,13 +84,18 @@ impl Parts {
         for Function { path, head, body } in functions::in_text(&prefix, text) {
             let (contract, inside) = (self.all.len(), self.all.len() + 1);
             let name = path.rsplit("::").next().unwrap_or(&path).to_string();
-            self.functions.insert(
-                inner(&path),
-                Places {
-                    contract,
-                    body: inside,
-                },
-            );
+            let places = Places {
+                contract,
+                body: inside,
+            };
+            if let Some(cycle) = cycle_of(&text[head.clone()]) {
+                let above = inner(&path)
+                    .rsplit_once('/')
+                    .map_or(String::new(), |(a, _)| format!("{a}/"));
+                let all = self.cycles.entry(format!("{above}+{cycle}")).or_default();
+                all.push(places);
+            }
+            self.functions.insert(inner(&path), places);
             self.all
                 .push(part(file, text, (head, BTreeSet::from([name]))));
             self.all.push(part(file, text, (body, BTreeSet::new())));
@@ -110,32 +122,50 @@ impl Parts {
                     found.extend(all.iter().map(|f| f.contract));
                     found.extend(all.iter().filter(|_| whole).map(|f| f.body));
                 }
+                Target::Declared => found.extend(self.named(&self.code(), import, &p.words)),
                 Target::Elsewhere => {}
             }
         }
         for f in self.proved_in(&p.file) {
             found.extend([f.contract, f.body]);
         }
-        let own = self.functions.values().find(|f| f.body == at);
-        found.extend(own.map(|f| f.contract));
+        if let Some(own) = self.functions.values().find(|f| f.body == at) {
+            found.insert(own.contract);
+            found.extend(self.proofs_of(*own));
+            found.extend(self.cited(&self.all[own.contract]));
+        }
+        found
+    }
+
+    fn code(&self) -> Vec<usize> {
+        let inside = |k: &usize| self.all[*k].file.ends_with(".rt");
+        (0..self.all.len()).filter(inside).collect()
+    }
+
+    /// The parts of the files in the folder of a function's proof.
+    fn proofs_of(&self, f: Places) -> Vec<usize> {
+        let inside = |k: &usize| self.proved_in(&self.all[*k].file).contains(&f);
+        (0..self.all.len()).filter(inside).collect()
+    }
+
+    /// The parts of the files that the attributes of a function name, as `crate::proofs::Laws::low_law`.
+    fn cited(&self, contract: &Part) -> Vec<usize> {
+        let text = &self.texts[&contract.file][contract.span.clone()];
+        let mut found = Vec::new();
+        for path in text.split("crate::").skip(1) {
+            let end = path.find(|c: char| !(c.is_alphanumeric() || c == '_' || c == ':'));
+            let steps: Vec<&str> = path[..end.unwrap_or(path.len())].split("::").collect();
+            let file = format!("{}.antt", steps[..steps.len() - 1].join("/"));
+            found.extend((0..self.all.len()).filter(|k| self.all[*k].file == file));
+        }
         found
     }
 
     /// The parts of a file that an import leads to; all of them where it has none of the name.
     fn imported(&self, file: &str, import: &Import, words: &BTreeSet<String>) -> Vec<usize> {
         let inside = |k: &usize| self.all[*k].file == file;
-        let wanted = |n: &String| match &import.names {
-            Some(names) => names
-                .iter()
-                .any(|t| t.used_in(words) && t.there.contains(n)),
-            None => words.contains(n),
-        };
         let all: Vec<usize> = (0..self.all.len()).filter(inside).collect();
-        let named: Vec<usize> = all
-            .iter()
-            .copied()
-            .filter(|k| self.all[*k].names.iter().any(wanted))
-            .collect();
+        let named = self.named(&all, import, words);
         if named.is_empty() {
             all
         } else {
@@ -143,12 +173,27 @@ impl Parts {
         }
     }
 
+    /// The parts that have a name which an import brings in, and which is used.
+    fn named(&self, of: &[usize], import: &Import, words: &BTreeSet<String>) -> Vec<usize> {
+        let wanted = |n: &String| match &import.names {
+            Some(names) => names
+                .iter()
+                .any(|t| t.used_in(words) && t.there.contains(n)),
+            None => words.contains(n),
+        };
+        let has = |k: &usize| self.all[*k].names.iter().any(wanted);
+        of.iter().copied().filter(has).collect()
+    }
+
     fn target(&self, krate: &str, path: &str) -> Target {
         for side in ["specs", "proofs"] {
-            let Some(rest) = path.strip_prefix(&format!("Rattle·{krate}·{side}.{side}.")) else {
+            let Some(rest) = path.strip_prefix(&format!("Rattle.{krate}.{side}.")) else {
                 continue;
             };
-            let steps: Vec<&str> = rest.split('.').collect();
+            if rest.starts_with("declared.") {
+                return Target::Declared;
+            }
+            let steps: Vec<&str> = rest.trim_start_matches("contracts.").split('.').collect();
             let file = format!("{side}/{}.antt", steps.join("/"));
             if self.texts.contains_key(&file) {
                 return Target::File(file);
@@ -156,7 +201,7 @@ impl Parts {
             for end in (1..=steps.len()).rev() {
                 let found = self.functions_at(&steps[..end].join("/"));
                 if !found.is_empty() {
-                    let told = ["Met", "Statement", "Symbol", "Key"];
+                    let told = ["Met", "Statement", "Symbol", "Key", "signature"];
                     let whole = !steps.last().is_some_and(|s| told.contains(s));
                     return Target::Functions(found, whole);
                 }
@@ -165,8 +210,11 @@ impl Parts {
         Target::Elsewhere
     }
 
-    /// The function of a path such as `a/f`, or those of a cycle, `a/+f+g`.
+    /// The function of a path such as `a/f`, or those of a cycle, `a/+f+g`, or by its name.
     fn functions_at(&self, path: &str) -> Vec<Places> {
+        if let Some(all) = self.cycles.get(path) {
+            return all.clone();
+        }
         let (above, last) = path.rsplit_once('/').unwrap_or(("", path));
         let names = last.split('+').filter(|n| !n.is_empty());
         let paths = names.map(|n| format!("{above}/{n}").trim_start_matches('/').to_string());
@@ -184,16 +232,11 @@ impl Parts {
         ends.flat_map(|path| self.functions_at(path)).collect()
     }
 
-    /// Where errors are told: the parts of proofs/, and the bodies of functions whose proof has no file.
+    /// Where errors are told: the parts of proofs/, and the bodies of functions.
     pub fn sites(&self) -> BTreeSet<usize> {
-        let files = self.texts.keys().flat_map(|file| self.proved_in(file));
-        let with_file: BTreeSet<usize> = files.map(|f| f.body).collect();
         let bodies = self.functions.values().map(|f| f.body);
         let proofs = (0..self.all.len()).filter(|k| self.all[*k].file.starts_with("proofs/"));
-        bodies
-            .filter(|k| !with_file.contains(k))
-            .chain(proofs)
-            .collect()
+        bodies.chain(proofs).collect()
     }
 
     /// The body of the function that the checker calls by the path.
@@ -241,6 +284,11 @@ fn closed(from: BTreeSet<usize>, next: &[BTreeSet<usize>]) -> BTreeSet<usize> {
         }
     }
     found
+}
+
+/// The name of the cycle that the attribute `#[cycle(name)]` gives.
+fn cycle_of(head: &str) -> Option<&str> {
+    head.split_once("#[cycle(")?.1.split(')').next()
 }
 
 /// `a/f` of `crate::a::f`.

@@ -4,7 +4,7 @@
 pub enum Verdict {
     /// The crate is proved.
     Proved,
-    /// Not proved; the first message says why.
+    /// Not proved; the first message that shows it says why.
     Refused(String),
     /// Not proved, but only because the edited text itself is wrong, or the proof no longer fits its shape.
     Hollow(String),
@@ -12,47 +12,59 @@ pub enum Verdict {
     Failed(String),
 }
 
-/// Messages of a proof that names what the edited code no longer has, or that answers, in place, another need than
+/// Messages of a proof that names what the edited code no longer has, or that answers, in place, another goal than
 /// the one that is asked there now: such a refusal shows nothing.
 const HOLLOW: [&str; 6] = [
-    "has no `Need-",
-    "can be named from here",
+    "that can be named from here",
     "has no field",
-    "not in scope",
+    "is not in scope",
+    "not in scope:",
     "this λ has",
     "`cc` proves only a path",
 ];
 
+/// In the message of a proof that only rests on one that failed.
+const FOLLOWS: [&str; 2] = ["not checked: ", "was not admitted"];
+
+/// What the checker says where it stops at a limit of its own, which it meets wherever it checks the same.
+const LIMITS: [&str; 3] = [
+    "antt ran out of",
+    "outgrew the memory limit",
+    "stopped at the step limit",
+];
+
 pub fn judge(status: Option<i32>, output: &str) -> Verdict {
-    let logic = output.lines().find_map(|line| line.strip_prefix("logic="));
     let first = first_message(output);
-    match (status, logic) {
-        (Some(0), Some(l)) if starts_word(l, "proved") => Verdict::Proved,
-        (Some(1), Some(l)) if starts_word(l, "not-proved") => {
-            let of_the_edit = ["specs/", "src/"]
-                .iter()
-                .any(|part| first.starts_with(part));
-            if of_the_edit || HOLLOW.iter().any(|text| first.contains(text)) {
-                Verdict::Hollow(first)
-            } else {
-                Verdict::Refused(first)
+    match status {
+        Some(0) if ended(output, "proved") => Verdict::Proved,
+        Some(1) if ended(output, "not-proved") => {
+            let all = errors(output);
+            match all.iter().find(|e| e.shows) {
+                Some(e) if !all.iter().any(OwnError::of_text) => {
+                    Verdict::Refused(e.message.clone())
+                }
+                _ => Verdict::Hollow(first),
             }
         }
-        (Some(code), _) => Verdict::Failed(format!("exit {code}: {first}")),
-        (None, _) => Verdict::Failed(format!("stopped by a signal: {first}")),
+        Some(3) if LIMITS.iter().any(|text| output.contains(text)) => {
+            Verdict::Refused(format!("only by a limit of the checker: {first}"))
+        }
+        Some(code) => Verdict::Failed(format!("exit {code}: {first}")),
+        None => Verdict::Failed(format!("stopped by a signal: {first}")),
     }
 }
 
 /// Did the checker end with "not proved"?
 pub fn not_proved(status: Option<i32>, output: &str) -> bool {
-    let told = |l: &str| {
-        l.strip_prefix("logic=")
-            .is_some_and(|l| starts_word(l, "not-proved"))
-    };
-    status == Some(1) && output.lines().any(told)
+    status == Some(1) && ended(output, "not-proved")
 }
 
-/// Where an error is: in a file, or in the proof of a function that has no file.
+fn ended(output: &str, verdict: &str) -> bool {
+    let told = output.lines().find_map(|line| line.strip_prefix("logic="));
+    told.is_some_and(|l| l.split_whitespace().next() == Some(verdict))
+}
+
+/// Where an error is: in a file, or in what the checker itself was to find of the proof of a function.
 #[derive(Debug, PartialEq, Eq)]
 pub enum Place {
     Line(String, usize),
@@ -68,6 +80,14 @@ pub struct OwnError {
     pub shows: bool,
 }
 
+impl OwnError {
+    /// Is it of the text of code or of definitions?
+    pub fn of_text(&self) -> bool {
+        let edited = |file: &str| file.starts_with("src/") || file.starts_with("specs/");
+        matches!(&self.place, Place::Line(file, _) if edited(file))
+    }
+}
+
 /// The errors of their own, in the order of the output.
 pub fn errors(output: &str) -> Vec<OwnError> {
     messages(output).into_iter().filter_map(own_error).collect()
@@ -75,26 +95,23 @@ pub fn errors(output: &str) -> Vec<OwnError> {
 
 fn own_error(message: String) -> Option<OwnError> {
     if let Some((path, said)) = message.strip_prefix("fn ").and_then(|m| m.split_once(": ")) {
-        let own = said.starts_with("no proof") && said.contains("does not close");
+        let own = said.starts_with("no proof") && said.contains("`search` did not prove");
         return own.then(|| OwnError {
             place: Place::Function(path.to_string()),
-            message: said.to_string(),
+            message: message.clone(),
             shows: true,
         });
     }
     let (place, said) = message.split_once(": error")?;
+    let place = place.strip_prefix("./").unwrap_or(place);
     let mut parts = place.splitn(3, ':');
     let (file, line) = (parts.next()?, parts.next()?.parse().ok()?);
-    let hollow = HOLLOW.iter().any(|text| said.contains(text));
-    (!said.contains(FOLLOWS)).then(|| OwnError {
+    let has = |texts: &[&str]| texts.iter().any(|text| said.contains(text));
+    (!has(&FOLLOWS)).then(|| OwnError {
         place: Place::Line(file.to_string(), line),
-        shows: file.starts_with("proofs/") && !hollow,
+        shows: file.starts_with("proofs/") && !has(&HOLLOW),
         message: message.clone(),
     })
-}
-
-fn starts_word(line: &str, word: &str) -> bool {
-    line.split_whitespace().next() == Some(word)
 }
 
 /// The first error of its own, or else what a function is told not to keep, or else the first one not
@@ -102,7 +119,8 @@ fn starts_word(line: &str, word: &str) -> bool {
 pub fn first_message(output: &str) -> String {
     let messages = messages(output);
     let with = |part: &str| {
-        let fits = |m: &&String| m.contains(part) && !m.contains(FOLLOWS);
+        let follows = |m: &str| FOLLOWS.iter().any(|text| m.contains(text));
+        let fits = |m: &&String| m.contains(part) && !follows(m);
         messages.iter().find(fits).cloned()
     };
     let found = with(": error").or_else(|| with("it is not proved"));
@@ -127,9 +145,6 @@ fn messages(output: &str) -> Vec<String> {
     found
 }
 
-/// In the message of a proof that only rests on one that failed.
-const FOLLOWS: &str = "was not admitted (it has holes";
-
 #[cfg(test)]
 mod tests {
     use super::*;
@@ -137,37 +152,52 @@ mod tests {
     #[test]
     fn a_proved_crate_is_not_refused() {
         assert_eq!(
-            judge(Some(0), "fn a: proved\nlogic=proved fns=3\n"),
+            judge(Some(0), "fn a: proved\nlogic=proved functions=3\n"),
             Verdict::Proved
         );
     }
 
     #[test]
     fn a_fact_that_fails_is_a_refusal() {
-        let out = "proofs/f/Proof.antt:3:1: error: omega fails at x\nlogic=not-proved\n";
-        assert!(matches!(judge(Some(1), out), Verdict::Refused(m) if m.contains("omega")));
+        let out =
+            "./proofs/f/Proof.antt:3:1: error: `returns`: `omega`: no\n  at x\nlogic=not-proved\n";
+        assert!(
+            matches!(judge(Some(1), out), Verdict::Refused(m) if m.ends_with("`omega`: no at x"))
+        );
+    }
+
+    #[test]
+    fn a_goal_that_nothing_closes_is_a_refusal() {
+        let out = "note: src/lib.rt:9:1: it is not proved that what the function ensures holds\n\
+                   fn c::f: no proof: expected answers in ./proofs/f/Answers.antt; `search` did not prove `returns`\n\
+                   fn c::g: not proved; it calls `c::f`, which is not proved\nlogic=not-proved\n";
+        assert!(matches!(judge(Some(1), out), Verdict::Refused(m) if m.starts_with("fn c::f")));
     }
 
     #[test]
     fn a_proof_that_only_became_unfit_shows_nothing() {
-        let out = "proofs/f/Proof.antt:3:1: error: f has no `Need-2`\nlogic=not-proved\n";
-        assert!(matches!(judge(Some(1), out), Verdict::Hollow(_)));
-        let out =
-            "p/f/Proof.antt:3:1: error: record `After`\n  has no field `args`\nlogic=not-proved\n";
-        assert!(matches!(judge(Some(1), out), Verdict::Hollow(_)));
-        let out = "specs/Moves.antt:3:1: error: `f`: a type\nlogic=not-proved\n";
-        assert!(matches!(judge(Some(1), out), Verdict::Hollow(_)));
-        let out =
-            "proofs/f/Proof.antt:9:5: error: `f-spec`: this λ has 2 binders\nlogic=not-proved\n";
-        assert!(matches!(judge(Some(1), out), Verdict::Hollow(_)));
+        let unfit = [
+            "proofs/f/Proof.antt:3:1: error: `x`: module `Tie` has no `Need-2` that can be named from here",
+            "./proofs/f/Proof.antt:3:1: error: `x`: record `After`\n  has no field `args`",
+            "./proofs/f/Answers.antt:3:1: error: `y` is not in scope",
+            "specs/Moves.antt:3:1: error: `f`: a type",
+            "proofs/f/Proof.antt:9:5: error: `f_spec`: this λ has 2 binders",
+        ];
+        for text in unfit {
+            let follows = "./proofs/f/Proof.antt:24:5: error: 1 declaration that depends on `x`, which was rejected, was not checked: f_spec";
+            let out = format!("{text}\n{follows}\nlogic=not-proved\n");
+            assert!(matches!(judge(Some(1), &out), Verdict::Hollow(_)), "{text}");
+        }
     }
 
     #[test]
     fn errors_with_their_places() {
-        let out = "proofs/f/Proof.antt:7:1: error: `returns`: x\n  more of it\n\
-                   proofs/G.antt:9:1: error: `g`: `returns` was not admitted (it has holes or\n\
-                   specs/S.antt:2:1: error: `s`: a type\nproofs/H.antt:3:1: error: `h`: x is not in scope\n\
-                   fn c::f: not proved\nfn c::i: no proof: `search` does not close `returns`\nlogic=not-proved\n";
+        let out = "./proofs/f/Proof.antt:7:1: error: `returns`: x\n  more of it\n\
+                   ./proofs/G.antt:9:1: error: 1 declaration that depends on `close`, which was not admitted, was not checked: g\n\
+                   specs/S.antt:2:1: error: `s`: a type\n./proofs/H.antt:3:1: error: `h`: `x` is not in scope\n\
+                   fn c::f: not proved\n\
+                   fn c::i: no proof: expected answers in ./proofs/i/Answers.antt; `search` did not prove `returns`\n\
+                   logic=not-proved\n";
         let all = errors(out);
         let places: Vec<(&Place, bool)> = all.iter().map(|e| (&e.place, e.shows)).collect();
         let line = |f: &str, n| Place::Line(f.into(), n);
@@ -187,8 +217,18 @@ mod tests {
 
     #[test]
     fn what_only_follows_is_passed_over() {
-        let out = "a: error: `f` was not admitted (it has holes or\nnote: src/lib.rt:1:1: it is not proved that\nlogic=not-proved\n";
-        assert!(matches!(judge(Some(1), out), Verdict::Refused(m) if m.starts_with("note: src")));
+        let out = "./proofs/f/Proof.antt:2:1: error: 1 declaration that depends on `close`, which was not admitted, was not checked: f_spec\n\
+                   ./proofs/g/Proof.antt:2:1: error: `g`: x\nlogic=not-proved\n";
+        assert!(matches!(judge(Some(1), out), Verdict::Refused(m) if m.starts_with("./proofs/g")));
+    }
+
+    #[test]
+    fn a_limit_of_the_checker_is_told() {
+        let out = "./proofs/f/Proof.antt:7:1: error: `f`: x\nantt ran out of the steps that the check of one declaration may take\n";
+        assert!(
+            matches!(judge(Some(3), out), Verdict::Refused(m) if m.starts_with("only by a limit"))
+        );
+        assert!(matches!(judge(Some(3), ""), Verdict::Failed(_)));
     }
 
     #[test]

@@ -5,16 +5,16 @@ use tools::claims::{check, claims_in, defines, rows};
 
 const SOURCE: &str = "\
 // The figures.
-ghost use Rattle·figures·specs.specs.Figures.{figures, FiguresHold};
+ghost use Rattle.figures.specs.Figures.{figures, FiguresHold};
 
 // They hold.
 pub fn figures_hold()
-    ensures { λ _. ⌜ FiguresHold ⌝ }
+    ensures { FiguresHold }
 {
 }
 
 pub fn other(n: u64) -> u64
-    ensures { λ r. ⌜ r ≡ n ⌝ }
+    ensures { result ≡ n }
 {
     n
 }
@@ -64,8 +64,8 @@ fn a_right_list() {
 #[test]
 fn layout_does_not_matter() {
     let source = SOURCE.replace(
-        "()\n    ensures { λ _. ⌜ FiguresHold ⌝ }\n{\n}",
-        "() ensures {\n  λ _.\n ⌜ FiguresHold ⌝ } { }",
+        "()\n    ensures { FiguresHold }\n{\n}",
+        "() ensures {\n  FiguresHold } { }",
     );
     assert_eq!(
         wrong("layout", &source, SPECS, &list(ROW), LINK),
@@ -80,8 +80,7 @@ fn a_link_is_missing() {
 
 #[test]
 fn a_claim_that_is_not_listed() {
-    let more =
-        format!("{SOURCE}\npub fn another()\n    ensures {{ λ _. ⌜ FiguresHold ⌝ }}\n{{\n}}\n");
+    let more = format!("{SOURCE}\npub fn another()\n    ensures {{ FiguresHold }}\n{{\n}}\n");
     finds(
         "missing",
         &more,
@@ -184,26 +183,26 @@ fn another_promise() {
     let all = list(ROW);
     finds(
         "weaker",
-        &SOURCE.replace("⌜ FiguresHold ⌝", "⌜ true ≡ true ⌝"),
+        &SOURCE.replace("{ FiguresHold }", "{ true ≡ true }"),
         SPECS,
         &all,
         "promises",
     );
     finds(
         "more",
-        &SOURCE.replace("⌜ FiguresHold ⌝", "⌜ FiguresHold ⌝ ∨ ⌜ ⊤ ⌝"),
+        &SOURCE.replace("{ FiguresHold }", "{ FiguresHold ⊎ ⊤ }"),
         SPECS,
         &all,
         "promises",
     );
     let asks = SOURCE.replace(
-        "    ensures { λ _.",
-        "    requires { ⌜ ⊥ ⌝ }\n    ensures { λ _.",
+        "    ensures { FiguresHold",
+        "    requires { ⊥ }\n    ensures { FiguresHold",
     );
     finds("asks", &asks, SPECS, &all, "promises `requires");
     finds(
         "none",
-        &SOURCE.replace("    ensures { λ _. ⌜ FiguresHold ⌝ }\n", ""),
+        &SOURCE.replace("    ensures { FiguresHold }\n", ""),
         SPECS,
         &all,
         "promises ``",
@@ -247,8 +246,8 @@ fn a_definition_that_is_not_there() {
 #[test]
 fn a_definition_of_the_same_name_from_elsewhere() {
     let source = SOURCE.replace(
-        "specs.specs.Figures.{figures, FiguresHold}",
-        "specs.specs.Other.{figures, FiguresHold}",
+        "specs.Figures.{figures, FiguresHold}",
+        "specs.Other.{figures, FiguresHold}",
     );
     finds(
         "elsewhere",

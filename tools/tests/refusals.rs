@@ -7,10 +7,10 @@ const WORDS: &str = "# a comment\n0 Open it again.\n7 Pay less.\n17 Ask less.\n"
 
 const ORDER: &str = "\
 pub record ReasonsInOrder : Type 0 where
-  pub of-open : (p : Plan) → numbers (plan-reasons p) ≡ 17 ∷ []
-  pub of-top-up : (a : Account) (n : ℕ)
+  pub of_open : (p : Plan) → numbers (plan_reasons p) ≡ 17 ∷ []
+  pub of_top_up : (a : Account) (n : ℕ)
       → numbers (reasons a (TopUp n)) ≡ 0 ∷ 7 ∷ []
-  pub only-these : (rs : List Reason) → among n (numbers rs) ≡ true
+  pub only_these : (rs : List Reason) → among n (numbers rs) ≡ true
 ";
 
 const README: &str = "\
@@ -72,7 +72,7 @@ fn wrong_readme() {
         (
             "| Top-up | 0, 7 |",
             "| Top-up | 7, 0 |",
-            "the order of top-up",
+            "the order of top_up",
         ),
         ("| Open | 17 |\n", "", "the order of open"),
         ("**7**, Top-up", "**seven**, Top-up", "no number: seven"),
@@ -100,11 +100,11 @@ fn wrong_words() {
 #[test]
 fn wrong_claim() {
     let tries = [
-        ("0 ∷ 7 ∷ []", "7 ∷ 0 ∷ []", "the order of top-up"),
+        ("0 ∷ 7 ∷ []", "7 ∷ 0 ∷ []", "the order of top_up"),
         ("17 ∷ []", "17 ∷ 18 ∷ []", "18 is answered"),
         ("17 ∷ []", "19 ∷ []", "17 is given by"),
         ("17 ∷ []", "[]", "not a list of numbers"),
-        ("of-", "for-", "has no lists of numbers"),
+        ("of_", "for_", "has no lists of numbers"),
     ];
     all_tell(ORDER, &tries, |claim| faults(README, WORDS, claim));
 }

@@ -6,15 +6,15 @@ use tools::rules::{check, choices, rules};
 
 const SPECS: &str = "\
 -- Limits.
-use Prim.Native.Nat.{ℕ}
+use Rattle.std.specs.Prelude.{ℕ, ◌+◌, Bool, true, false}
 
 -- use-1: no more than ten
 abbrev pub limit : ℕ
 limit = 10
 
 -- aid: a sum. Law: it grows (`Both`)
-infixl 65 _⊕_
-abbrev pub _⊕_ : ℕ → ℕ → ℕ
+infixl 65 ◌⊕◌
+abbrev pub ◌⊕◌ : ℕ → ℕ → ℕ
 a ⊕ b = a + b
 
 -- use-1, use-2: one by the other
@@ -301,7 +301,7 @@ fn texts_are_taken_apart() {
         .into_iter()
         .map(|d| d.name)
         .collect();
-    assert_eq!(names, ["limit", "_⊕_", "even", "odd", "Both"]);
+    assert_eq!(names, ["limit", "◌⊕◌", "even", "odd", "Both"]);
     assert_eq!(in_text("meter/Limits", SPECS)[4].ids, ["use-2", "use-1"]);
     assert!(choices(DECISIONS).contains(&("the-use".to_string(), "ten itself".to_string())));
 }
