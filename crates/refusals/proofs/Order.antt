@@ -17,7 +17,7 @@ use Rattle.sections.specs.Find.{find_reasons}
 use Rattle.tripfile.specs.Reading.{body_reasons, read_reasons}
 use Rattle.tripfile.specs.Writing.{calls_reasons, write_reasons}
 use Rattle.textlines.specs.Text.{reading_reasons, export_reasons}
-use Rattle.refusals.specs.Order.{numbers, among, ReasonsInOrder}
+use Rattle.refusals.specs.Order.{numbers, among, ReasonsInOrder, TextReasonsInOrder}
 
 or_right : (b : Bool) → (b || true) ≡ true
 or_right true = refl
@@ -34,7 +34,7 @@ only_these (r ∷ rs) n h = go r.holds (λ e. only_these rs n e) h
     go false f e = rw (f e) (or_right (eqb n r.number))
 
 pub reasons_in_order : ReasonsInOrder
-unfolding numbers amount_reasons plan_reasons terms_reasons use_reasons top_up_reasons next_day_reasons own_reasons reasons file_reasons find_reasons body_reasons read_reasons calls_reasons write_reasons plain before with_allowance box_reasons card_reasons open_reasons reading_reasons export_reasons
+unfolding numbers amount_reasons plan_reasons terms_reasons use_reasons top_up_reasons next_day_reasons own_reasons reasons file_reasons find_reasons body_reasons read_reasons calls_reasons write_reasons plain before with_allowance box_reasons card_reasons open_reasons
 reasons_in_order = record {
   of_open = λ p. refl;
   of_register = λ a p. refl;
@@ -51,7 +51,12 @@ reasons_in_order = record {
   of_top_up_box = λ b n. refl;
   of_next_day_box = λ b. refl;
   of_afford_card = λ b i k. refl;
+  only_these = only_these;
+}
+
+pub text_reasons_in_order : TextReasonsInOrder
+unfolding numbers calls_reasons reading_reasons export_reasons
+text_reasons_in_order = record {
   of_read_text = λ t a b. refl;
   of_export_text = λ cs ns room. refl;
-  only_these = only_these;
 }

@@ -30,8 +30,8 @@ unfoldable pub among : ℕ → List ℕ → Bool
 among n [] = false
 among n (m ∷ ms) = eqb n m || among n ms
 
--- order-1, order-3, order-4, fault-4, family-11, family-12, family-13, family-14, lines-9, lines-10: each operation's
--- numbers; and a refusal tells one of them
+-- order-1, order-3, order-4, fault-4, family-11, family-12, family-13, family-14: each operation's numbers; and a
+-- refusal tells one of them
 pub record ReasonsInOrder : Type 0 where
   pub of_open : (p : Plan) → numbers (plan_reasons p) ≡ 1 ∷ 17 ∷ 18 ∷ 2 ∷ []
   pub of_register : (a : Account) (p : Place) → numbers (reasons a (Register p)) ≡ 0 ∷ []
@@ -50,6 +50,9 @@ pub record ReasonsInOrder : Type 0 where
   pub of_top_up_box : (b : Box) (n : ℕ) → numbers (box_reasons b (OnBox.TopUp n)) ≡ 0 ∷ 19 ∷ 7 ∷ 8 ∷ []
   pub of_next_day_box : (b : Box) → numbers (box_reasons b OnBox.NextDay) ≡ 0 ∷ 19 ∷ 9 ∷ []
   pub of_afford_card : (b : Box) (i : ℕ) (k : Kind) → numbers (box_reasons b (OnBox.Afford i k)) ≡ 0 ∷ 19 ∷ 3 ∷ []
+  pub only_these : (rs : List Reason) (n : ℕ) → verdict_of rs ≡ Refused n → among n (numbers rs) ≡ true
+
+-- order-1, order-4, lines-9, lines-10: the numbers of reading a text of calls, and of exporting one
+pub record TextReasonsInOrder : Type 0 where
   pub of_read_text : (t : List ℕ) (a b : ℕ) → numbers (reading_reasons t a b) ≡ 21 ∷ 22 ∷ 16 ∷ []
   pub of_export_text : (cs ns : List ℕ) (room : ℕ) → numbers (export_reasons cs ns room) ≡ 14 ∷ 15 ∷ 21 ∷ 16 ∷ []
-  pub only_these : (rs : List Reason) (n : ℕ) → verdict_of rs ≡ Refused n → among n (numbers rs) ≡ true

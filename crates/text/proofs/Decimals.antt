@@ -8,9 +8,10 @@ use lib.ListN.{length, get_or, take, drop, set, length-append, length-drop, drop
 use lib.Seq.{take_at, take_all, take-take, get_or-take, drop-cons, length-take-le, get_or-append_seam}
 use lib.Dec.{leb, ltb}
 use borrow.Author.Tests.{leb-true, ltb-true, ltb-false, le-leb, lt-ltb, le-ltb}
-use Rattle.text.specs.Text.{digit, decimal_in, decimal, read_on, all_digits, no_leading_zero, placed}
-use Rattle.text.specs.Claims.{DecimalReadsBack, DigitsAreDecimal}
-use Rattle.text.proofs.Placing.{placed_none, put_before}
+use Rattle.text.specs.Text.{digit, decimal_in, decimal, placed}
+use Rattle.text.specs.Claims.{read_on, DecimalReadsBack}
+use Rattle.text.specs.Reading.{all_digits, no_leading_zero, spelled, DigitsAreDecimal}
+use Rattle.text.proofs.Placing.{length-placed, placed_after, stored}
 
 -- ---- n steps are enough for n, so the text follows the rule without a bound of steps
 
@@ -80,78 +81,20 @@ few_digits (suc k) n h = go (ltb n 10) refl (few_digits k (n / 10))
 pub u64_digits : (n : ℕ) → n < 2 ^ 64 → length (decimal n) ≤ 20
 u64_digits n h = few_digits 19 n (omega arith)
 
--- ---- put into a buffer, the last digit first
+-- ---- put into a buffer, its last digit last
 
--- the last i digits of n are put, from place e on; those before them are the digits of the rest
-pub record Ending (n rest : ℕ) (buf₀ buf : List ℕ) (at e : ℕ) : Type 0 where
-  pub begun : at ≤ e
-  pub within : e ≤ at + length (decimal n)
-  pub first : at < e → take (e - at) (decimal n) ≡ decimal rest
-  pub put : buf ≡ placed buf₀ e (drop (e - at) (decimal n))
+pub put_digit : (buf : List ℕ) (a n : ℕ) → n < 10 → a + length (decimal n) ≤ length buf → set buf a (digit n) ≡ placed buf a (decimal n)
+put_digit buf a n h l = rw (decimal_small n h) (stored buf a (digit n) (omega (arith, length_small n h)))
 
-pub none_put : (n : ℕ) (buf : List ℕ) (at e : ℕ) → e ≡ at + length (decimal n) → Ending n n buf buf at e
-none_put n buf at e h =
-    let l : e - at ≡ length (decimal n) = omega arith in
-    let d : drop (e - at) (decimal n) ≡ [] = drop_of_length-le (decimal n) {i = e - at} (omega arith) in
-    record {
-      begun = omega arith;
-      within = omega arith;
-      first = λ k. take_all (e - at) (decimal n) (omega arith);
-      put = sym (ap (placed buf e) d ∙ placed_none buf e);
-    }
-
--- the last digit of a number, and the others
-last_digit : (n j : ℕ) → length (decimal n) ≡ suc j → get_or (decimal n) j 0 ≡ digit (n % 10)
-last_digit n j e = go (ltb n 10) refl
-  where
-    go : (b : Bool) → ltb n 10 ≡ b → get_or (decimal n) j 0 ≡ digit (n % 10)
-    go true f =
-        let h = ltb-true n 10 f in
-        let z : j ≡ 0 = omega (arith, length_small n h) in
-        let r : n % 10 ≡ n = omega arith in
-        rw (decimal_small n h, z, r) refl
-    go false f =
-        let h = ltb-false n 10 f in
-        let z : j ≡ length (decimal (n / 10)) = omega (arith, length_more n h) in
-        rw (decimal_more n h, z) (get_or-append_seam (decimal (n / 10)) (digit (n % 10)) [] 0)
-
-other_digits : (n j : ℕ) → length (decimal n) ≡ suc j → 1 ≤ j → take j (decimal n) ≡ decimal (n / 10)
-other_digits n j e l = go (ltb n 10) refl
-  where
-    go : (b : Bool) → ltb n 10 ≡ b → take j (decimal n) ≡ decimal (n / 10)
-    go true f = absurd (omega (arith, length_small n (ltb-true n 10 f)))
-    go false f =
-        let h = ltb-false n 10 f in
-        let z : length (decimal (n / 10)) ≡ j = omega (arith, length_more n h) in
-        ap (take j) (decimal_more n h) ∙ take_at (decimal (n / 10)) (digit (n % 10) ∷ []) j z
-
-pub one_put : (n rest : ℕ) (buf₀ buf : List ℕ) (at e d : ℕ) → Ending n rest buf₀ buf at e → at < e → at + length (decimal n) ≤ length buf₀
-    → d ≡ digit (rest % 10) → Ending n (rest / 10) buf₀ (set buf (e - 1) d) at (e - 1)
-one_put n rest buf₀ buf at e d p l h ed =
-    let D = decimal n in
-    let j = e - 1 - at in
-    let s : e - at ≡ suc j = omega arith in
-    let front : take (suc j) D ≡ decimal rest = ap (λ (k : ℕ). take k D) (sym s) ∙ p.first l in
-    let long : length (decimal rest) ≡ suc j = ap length (sym front) ∙ length-take-le (suc j) D (omega (arith, p.within)) in
-    let is : get_or D j 0 ≡ d = sym (get_or-take (suc j) D j 0 (omega arith)) ∙ (ap (λ (x : List ℕ). get_or x j 0) front ∙ (last_digit rest j long ∙ sym ed)) in
-    let tail : d ∷ drop (suc j) D ≡ drop j D = ap (λ (x : ℕ). x ∷ drop (suc j) D) (sym is) ∙ sym (drop-cons D j 0 (omega (arith, p.within))) in
-    let e1 : e ≡ e - 1 + 1 = omega arith in
-    let was : buf ≡ placed buf₀ (e - 1 + 1) (drop (suc j) D) =
-    p.put ∙ (ap (λ (k : ℕ). placed buf₀ e (drop k D)) s ∙ ap (λ (k : ℕ). placed buf₀ k (drop (suc j) D)) e1) in
-    record {
-      begun = omega arith;
-      within = omega (arith, p.within);
-      first = λ k. sym (take-take j (suc j) D (omega arith)) ∙ (ap (take j) front ∙ other_digits rest j long (omega arith));
-      put =
-          ap (λ (x : List ℕ). set x (e - 1) d) was
-          ∙ (put_before buf₀ (e - 1) (drop (suc j) D) d (omega (arith, length-drop (suc j) D, p.within)) ∙ ap (placed buf₀ (e - 1)) tail);
-    }
-
-pub all_put : (n rest : ℕ) (buf₀ buf : List ℕ) (at e : ℕ) → Ending n rest buf₀ buf at e → e ≤ at → buf ≡ placed buf₀ at (decimal n)
-all_put n rest buf₀ buf at e p l =
-    let z : e ≡ at = omega (arith, p.begun) in
-    let y : e - at ≡ 0 = omega arith in
-    p.put ∙ (ap (λ (k : ℕ). placed buf₀ e (drop k (decimal n))) y ∙ ap (λ (k : ℕ). placed buf₀ k (decimal n)) z)
+pub put_last : (buf : List ℕ) (a n : ℕ) (b : List ℕ) (e d : ℕ) → 10 ≤ n → a + length (decimal n) ≤ length buf
+    → b ≡ placed buf a (decimal (n / 10)) → e ≡ a + length (decimal (n / 10)) → d ≡ digit (n % 10)
+    → set b e d ≡ placed buf a (decimal n)
+put_last buf a n b e d h l p q r =
+    let s = decimal (n / 10) in
+    let m = length_more n h in
+    let k = length-placed buf a s (omega arith) in
+    rw (p, q, r) (stored (placed buf a s) (a + length s) (digit (n % 10)) (omega arith))
+    ∙ (placed_after buf a s (digit (n % 10) ∷ []) (omega arith) ∙ ap (placed buf a) (sym (decimal_more n h)))
 
 -- ---- it reads back
 
@@ -211,6 +154,29 @@ digits_alone = by_digits (λ n. all_digits (decimal n) ≡ true) small more
         ap all_digits (decimal_more n h)
         ∙ digits_append (decimal (n / 10)) (digit (n % 10) ∷ []) ih (one_digit (n % 10) (omega arith))
 
+-- each byte of the text is one of a digit
+each_digit : (n i : ℕ) → i < length (decimal n) → (digit 0 ≤ get_or (decimal n) i 0) × (get_or (decimal n) i 0 ≤ digit 9)
+each_digit = by_digits Digits small more
+  where
+    Digits : ℕ → Type 0
+    Digits n = (i : ℕ) → i < length (decimal n) → (digit 0 ≤ get_or (decimal n) i 0) × (get_or (decimal n) i 0 ≤ digit 9)
+
+    small : (n : ℕ) → n < 10 → Digits n
+    small n h i l =
+        let e : i ≡ 0 = omega (arith, length_small n h) in
+        rw (decimal_small n h, e) (omega arith, omega arith)
+
+    more : (n : ℕ) → 10 ≤ n → Digits (n / 10) → Digits n
+    more n h ih i l = go (ltb i (length (decimal (n / 10)))) refl
+      where
+        go : (b : Bool) → ltb i (length (decimal (n / 10))) ≡ b → (digit 0 ≤ get_or (decimal n) i 0) × (get_or (decimal n) i 0 ≤ digit 9)
+        go true e =
+            let k = ltb-true i (length (decimal (n / 10))) e in
+            rw (decimal_more n h, get_or-append (decimal (n / 10)) (digit (n % 10) ∷ []) 0 i k) (ih i k)
+        go false e =
+            let k : i ≡ length (decimal (n / 10)) = omega (arith, length_more n h, ltb-false i (length (decimal (n / 10))) e) in
+            rw (decimal_more n h, k, get_or-append_seam (decimal (n / 10)) (digit (n % 10)) [] 0) (omega arith, omega arith)
+
 -- ---- a number other than 0 does not begin with `0`
 
 first_digit : (n : ℕ) → 1 ≤ n → digit 1 ≤ get_or (decimal n) 0 0
@@ -237,8 +203,15 @@ two_or_more =
 pub reads_back : DecimalReadsBack
 reads_back n = record {
   number = number_back n;
-  digits = and_yes (all_digits (decimal n)) (no_leading_zero (decimal n)) (digits_alone n) (begins (decimal n) (some_digit n) (λ h. first_digit n (two_or_more n h)));
+  digits = each_digit n;
+  some = some_digit n;
+  fewest = λ h. first_digit n (two_or_more n h);
 }
+
+-- the text of a number is spelled as one
+pub spelled_back : (n : ℕ) → spelled (decimal n) ≡ true
+spelled_back n =
+    and_yes (all_digits (decimal n)) (no_leading_zero (decimal n)) (digits_alone n) (begins (decimal n) (some_digit n) (λ h. first_digit n (two_or_more n h)))
 
 -- ---- digits are the text of the number that they read as
 

@@ -1,12 +1,12 @@
 -- Laws of text that is put into a buffer. Assumes nothing.
 use mathlib.Core.Path.{◌≡◌, refl, sym, ◌∙◌, ap}
-use Prim.Native.Nat.{ℕ, suc, ◌+◌, ◌≤◌, ◌<◌}
+use Prim.Native.Nat.{ℕ, ◌+◌, ◌≤◌, ◌<◌}
 use mathlib.Core.List.{List, [], ◌∷◌, ◌++◌, append_assoc}
 use native.Mathlib.Numerals.{add-one}
 use native.Mathlib.Omega.{arith}
 use native.Mathlib.Nat.{add-zero}
 use lib.ListN.{length, get_or, set, take, drop, length-append, length-drop, take-append-drop}
-use lib.Seq.{take_at, drop-append-add, drop-drop, set_split, set_at, take-suc, length-take-le}
+use lib.Seq.{take_at, drop-append-add, drop-drop, set_split, take-suc, length-take-le}
 use Rattle.text.specs.Text.{placed}
 
 -- the buffer's length stays
@@ -40,19 +40,6 @@ placed_after buf a s t h =
 pub stored : (buf : List ℕ) (a b : ℕ) → a < length buf → set buf a b ≡ placed buf a (b ∷ [])
 unfolding placed
 stored buf a b h = rw (add-one a) (set_split buf a b h)
-
--- one byte more in front of those that were put
-pub put_before : (buf : List ℕ) (a : ℕ) (s : List ℕ) (d : ℕ) → a + 1 + length s ≤ length buf
-    → set (placed buf (a + 1) s) a d ≡ placed buf a (d ∷ s)
-unfolding placed
-put_before buf a s d h =
-    let r = s ++ drop (a + 1 + length s) buf in
-    let t : take (a + 1) buf ≡ take a buf ++ (get_or buf a 0 ∷ []) = rw (add-one a) (take-suc buf a 0 (omega arith)) in
-    let e : a + 1 + length s ≡ a + suc (length s) = omega arith in
-    ap (λ (x : List ℕ). set (x ++ r) a d) t
-    ∙ (ap (λ (x : List ℕ). set x a d) (append_assoc (take a buf) (get_or buf a 0 ∷ []) r)
-    ∙ (set_at (take a buf) (get_or buf a 0) r d a (length-take-le a buf (omega arith))
-    ∙ ap (λ (k : ℕ). take a buf ++ (d ∷ (s ++ drop k buf))) e))
 
 -- one byte more of those to be put
 pub put_more : (buf : List ℕ) (a : ℕ) (s : List ℕ) (i : ℕ) → a + length s ≤ length buf → i < length s

@@ -8,7 +8,9 @@ use native.Mathlib.Omega.{arith}
 use lib.ListN.{length, get_or, drop, drop_of_length-le}
 use lib.Seq.{drop-cons}
 use lib.Dec.{leb, ltb}
-use Rattle.text.specs.Text.{digit, read_on, all_digits, no_leading_zero}
+use Rattle.text.specs.Text.{digit}
+use Rattle.text.specs.Claims.{read_on}
+use Rattle.text.specs.Reading.{all_digits, no_leading_zero}
 
 -- the largest number that is told from larger ones
 abbrev pub held : ℕ → ℕ

@@ -1,17 +1,20 @@
--- What is claimed of the decimal text of a number (scope-2, lines-3). Choice (docs/DECISIONS.md, "Statement"): figures.
--- Assumes nothing.
-use Rattle.std.specs.Prelude.{ℕ, ◌≡◌, true, List}
-use Rattle.text.specs.Text.{decimal, read_on, spelled}
+-- What is claimed of the decimal text of a number (scope-2). Choice (docs/DECISIONS.md, "Statement"): figures. Assumes
+-- nothing.
+use Rattle.std.specs.Prelude.{ℕ, ◌+◌, ◌-◌, ◌*◌, ◌≤◌, ◌<◌, ◌≡◌, List, [], ◌∷◌, length, slice_index}
+use Rattle.text.specs.Text.{digit, decimal}
 
--- scope-2, lines-3: the text of n reads as n; it is digits alone, one at least, and of two or more the first is not `0`
+-- aid: digits read from the first on, after others that came to n
+unfoldable pub read_on : ℕ → List ℕ → ℕ
+read_on n [] = n
+read_on n (d ∷ ds) = read_on (10 * n + (d - digit 0)) ds
+
+-- scope-2: the text of n reads as n, in digits, one at least; of two or more the first is not `0`
 pub record ReadsBack (n : ℕ) : Type 0 where
   pub number : read_on 0 (decimal n) ≡ n
-  pub digits : spelled (decimal n) ≡ true
+  pub digits : (i : ℕ) → i < length (decimal n) → (digit 0 ≤ slice_index (decimal n) i) × (slice_index (decimal n) i ≤ digit 9)
+  pub some : 1 ≤ length (decimal n)
+  pub fewest : 2 ≤ length (decimal n) → digit 1 ≤ slice_index (decimal n) 0
 
--- scope-2, lines-3: so it is with every number
+-- scope-2: so it is with every number
 abbrev pub DecimalReadsBack : Type 0
 DecimalReadsBack = (n : ℕ) → ReadsBack n
-
--- lines-3: and digits, one at least, without a `0` in front of others are the text of the number that they read as
-abbrev pub DigitsAreDecimal : Type 0
-DigitsAreDecimal = (ds : List ℕ) → spelled ds ≡ true → decimal (read_on 0 ds) ≡ ds

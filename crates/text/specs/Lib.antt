@@ -1,3 +1,4 @@
--- Text in a buffer, and the claim about decimal numbers.
+-- Text in a buffer, the claim about decimal numbers, and digits read.
 pub mod Text
 pub mod Claims
+pub mod Reading

@@ -2,8 +2,9 @@
 #![tactic(auto)]
 
 ghost use Rattle.std.specs.Prelude.{◌≡◌, ◌&&◌, ◌+◌, ◌-◌, ◌*◌, ◌≤◌, ◌<◌, min, length, leb};
-ghost use Rattle.text.specs.Text.{placed, digit, decimal, no_leading_zero, figure_of};
-ghost use Rattle.text.specs.Claims.{DecimalReadsBack, DigitsAreDecimal};
+ghost use Rattle.text.specs.Text.{placed, digit, decimal};
+ghost use Rattle.text.specs.Claims.{DecimalReadsBack};
+ghost use Rattle.text.specs.Reading.{no_leading_zero, figure_of, DigitsAreDecimal};
 
 // What bytes read as: the number, held at 4,294,967,296, and whether they are the decimal text of a number.
 #[derive(Clone, Copy)]
@@ -47,21 +48,19 @@ pub fn decimal_length(n: u64) -> usize
     digits
 }
 
-// Puts a number in decimal into the buffer from place `at` on, the last digit first, and answers the place after it.
+// Puts a number in decimal into the buffer from place `at` on, and answers the place after its last digit.
 pub fn put_decimal(n: u64, at: usize, buf: &mut [u8]) -> usize
     requires { at + length (decimal n) ≤ length buf.old }
     ensures end { result ≡ at + length (decimal n) }
     ensures buffer { buf.new ≡ placed buf.old at (decimal n) }
 {
-    let end = at + decimal_length(n);
-    let mut rest = n;
-    let mut next = end;
-    while at < next {
-        next -= 1;
-        buf[next] = digit_byte(rest % 10);
-        rest = rest / 10;
+    if n < 10 {
+        buf[at] = digit_byte(n);
+        return at + 1;
     }
-    end
+    let last = put_decimal(n / 10, at, buf);
+    buf[last] = digit_byte(n % 10);
+    last + 1
 }
 
 // What the byte of a digit counts, with 0 for the bytes before `0`.
@@ -110,11 +109,11 @@ pub fn read_decimal(digits: &[u8]) -> Figure
 {
     let mut value = 0;
     let mut right = true;
-    let mut i = 0;
-    while i < digits.len() {
-        value = with_digit(value, digits[i]);
-        right = right & is_digit(digits[i]);
-        i += 1;
+    let mut at = 0;
+    while at < digits.len() {
+        value = with_digit(value, digits[at]);
+        right = right & is_digit(digits[at]);
+        at += 1;
     }
     let short = is_short(digits);
     Figure {

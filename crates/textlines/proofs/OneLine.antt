@@ -11,8 +11,10 @@ use lib.Dec.{eqb, leb}
 use borrow.Author.Tests.{eqb-true, eq-eqb, ne_eqb, leb-true}
 use Rattle.tariff.proofs.Tests.{bool_ext, and_left, and_right, and_both}
 use Rattle.tripfile.specs.Bodies.{Call, call, call_right}
-use Rattle.text.specs.Text.{decimal, read_on, all_digits, spelled}
-use Rattle.text.proofs.Decimals.{reads_back, spelled_again, digits_alone}
+use Rattle.text.specs.Text.{decimal}
+use Rattle.text.specs.Claims.{read_on}
+use Rattle.text.specs.Reading.{all_digits, spelled}
+use Rattle.text.proofs.Decimals.{reads_back, spelled_back, spelled_again, digits_alone}
 use Rattle.textlines.specs.Line.{name, heading, line, code_in, digits_in, number_in, call_in, same_list, right_line, framed_as}
 
 -- ---- the same bytes
@@ -260,7 +262,7 @@ module _ (s : List ℕ) where
       line_here h ∙ ap (λ (x : List ℕ). heading (code_in s) ++ (x ++ (10 ∷ []))) (sym (digits_here h))
 
   form_spelled : right_line s ≡ true → spelled bytes ≡ true
-  form_spelled h = ap spelled (digits_here h) ∙ (reads_back (number_in (code_in s) s)).digits
+  form_spelled h = ap spelled (digits_here h) ∙ spelled_back (number_in (code_in s) s)
 
   form_word : right_line s ≡ true → read_on 0 bytes ≤ 4294967295
   unfolding number_in

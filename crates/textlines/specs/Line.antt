@@ -1,7 +1,8 @@
 -- One line of the text of calls, as it is written and as it is read (lines-1 to lines-3, refusal-22). Choice
 -- (docs/DECISIONS.md, "Text of calls"): what a line is read as. Assumes nothing.
 use Rattle.std.specs.Prelude.{ℕ, ◌-◌, min, Bool, true, false, cond, ◌&&◌, List, [], ◌∷◌, ◌++◌, length, get_or, take, drop, eqb}
-use Rattle.text.specs.Text.{ascii, decimal, read_on}
+use Rattle.text.specs.Text.{ascii, decimal}
+use Rattle.text.specs.Claims.{read_on}
 use Rattle.tripfile.specs.Bodies.{Call, call, call_right}
 
 -- lines-2: the names of the codes 1 to 7, in this order; 0 is no code

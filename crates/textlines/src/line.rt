@@ -1,6 +1,7 @@
 // One line: put into a buffer, and read.
 ghost use Rattle.std.specs.Prelude.{◌≡◌, true, ◌+◌, ◌≤◌, length, take};
-ghost use Rattle.text.specs.Text.{placed, figure_of};
+ghost use Rattle.text.specs.Text.{placed};
+ghost use Rattle.text.specs.Reading.{figure_of};
 ghost use Rattle.tripfile.specs.Bodies.{call};
 ghost use Rattle.textlines.specs.Line.{heading, line, code_by, code_in, digits_in, number_in};
 ghost use Rattle.textlines.specs.Line.{framed_as, right_line};

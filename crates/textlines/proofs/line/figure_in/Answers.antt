@@ -1,6 +1,6 @@
 -- The bytes read stand between heading and line feed, or are none where the line is not longer than the heading.
 use Rattle.std.proofs.Common.{◌≡◌, sym, ◌∙◌, ap, ℕ, ◌-◌, arith, length, take, drop}
-use Rattle.text.specs.Text.{figure_of}
+use Rattle.text.specs.Reading.{figure_of}
 use Rattle.textlines.specs.Line.{digits_in}
 use Rattle.textlines.proofs.OneLine.{no_digits}
 use Rattle.textlines.proofs.line.figure_in.Goals as goal

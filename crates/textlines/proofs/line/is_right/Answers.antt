@@ -1,7 +1,7 @@
 -- A number past the largest word is no line's; else the three tests say whether the line is of the form.
 use Rattle.std.proofs.Common.{ap, arith}
 use Rattle.text.specs.declared.Figure.{Figure}
-use Rattle.text.specs.Text.{figure_of}
+use Rattle.text.specs.Reading.{figure_of}
 use Rattle.textlines.proofs.OneLine.{not_right, right_is}
 use Rattle.textlines.proofs.line.is_right.Goals as goal
 

@@ -1,7 +1,7 @@
 -- The number read, held at the largest word.
 use Rattle.std.proofs.Common.{ap, arith}
 use Rattle.text.specs.declared.Figure.{Figure}
-use Rattle.text.specs.Text.{figure_of}
+use Rattle.text.specs.Reading.{figure_of}
 use Rattle.textlines.specs.Line.{number_in}
 use Rattle.textlines.proofs.line.number_of.Goals as goal
 

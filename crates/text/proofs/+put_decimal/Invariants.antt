@@ -1,0 +1,5 @@
+-- `text::put_decimal` goes on over the tenth part.
+use Rattle.text.proofs.+put_decimal.Given as goal
+
+abbrev pub decreases-put_decimal : goal.decreases-put_decimal
+decreases-put_decimal l = l.n
