@@ -1,12 +1,12 @@
 -- From a file to a text and back, and from a text to a file and back. Assumes nothing.
 use mathlib.Core.Path.{◌≡◌, refl, sym, ◌∙◌, ap}
 use mathlib.Core.Bool.{Bool, true, false, cond}
-use mathlib.Core.List.{List, [], ◌∷◌, ◌++◌}
-use Prim.Native.Nat.{ℕ, ◌+◌, ◌*◌, ◌/◌, ◌≤◌}
+use mathlib.Core.List.{List, [], ◌∷◌}
+use Prim.Native.Nat.{ℕ, ◌/◌, ◌≤◌}
 use native.Mathlib.Omega.{arith}
-use lib.ListN.{length, get_or, take, drop}
+use lib.ListN.{length, get_or, take}
 use lib.Dec.{eqb}
-use Rattle.words.specs.Words.{Words, Bytes}
+use Rattle.words.specs.Words.{Words}
 use Rattle.words.proofs.Read.{Fit, none, more, fit_at}
 use Rattle.text.specs.Text.{placed}
 use Rattle.text.proofs.Placing.{length-placed}
@@ -16,12 +16,11 @@ use Rattle.tripfile.specs.declared.Read.TheVariants as Told
 use Rattle.tripfile.specs.declared.Written.{Written}
 use Rattle.tripfile.specs.declared.Written.TheVariants as Wrote
 use Rattle.sections.specs.Find.{section_of}
-use Rattle.tripfile.specs.Bodies.{Call, calls_in, codes_of, numbers_of}
+use Rattle.tripfile.specs.Bodies.{calls_in, codes_of, numbers_of}
 use Rattle.tripfile.specs.Reading as Files
 use Rattle.tripfile.specs.Writing as Writes
 use Rattle.tripfile.proofs.Held.{holds}
 use Rattle.tripfile.proofs.Listed.{length_codes, length-numbers}
-use Rattle.roundtrip.specs.Trips as Whole
 use Rattle.roundtrip.proofs.Back.{written_reads_back}
 use Rattle.roundtrip.proofs.Again.{read_writes_again}
 use Rattle.roundtrip.proofs.Keeps.{words_read}
@@ -29,12 +28,10 @@ use Rattle.textlines.specs.declared.TextRead.{TextRead}
 use Rattle.textlines.specs.declared.TextRead.TheVariants as Lines
 use Rattle.textlines.specs.Line.{code_by, code_in, call_in}
 use Rattle.textlines.specs.Text as Texts
-use Rattle.textlines.proofs.OneLine.{call_is, number_held}
+use Rattle.textlines.proofs.OneLine.{number_held}
 use Rattle.textlines.proofs.Filling.{length_calls}
-use Rattle.textlines.proofs.RoundTrips.{Tells, read_tells, exported_reads_back, read_exports_again}
-use Rattle.conversion.specs.declared.Exported.{Exported}
+use Rattle.textlines.proofs.RoundTrips.{read_tells, exported_reads_back, read_exports_again}
 use Rattle.conversion.specs.declared.Exported.TheVariants as Out
-use Rattle.conversion.specs.declared.Imported.{Imported}
 use Rattle.conversion.specs.declared.Imported.TheVariants as In
 use Rattle.conversion.specs.Conversion.{told_text, export_by, export_of, export_buffer_by, export_buffer}
 use Rattle.conversion.specs.Conversion.{told_file, lines_read, import_by, import_of, import_buffer_by, import_buffer}

@@ -1,5 +1,7 @@
 // Between trip files and text: the calls of a trip file as text, and the trip file of a plan and a text (lines-11,
 // lines-12).
+#![tactic(auto)]
+
 pub mod claims;
 pub mod exporting;
 pub mod importing;

@@ -1,4 +1,6 @@
 // Calls as the trip file codes them, run one after the other on an account (file-8, list-2).
+#![tactic(auto)]
+
 ghost use Rattle.std.specs.Prelude.{◌≡◌, ◌+◌, ◌*◌, ◌≤◌, ◌<◌, length};
 ghost use Rattle.account.specs.Calls.{step};
 ghost use Rattle.account.specs.Answers.{account_of, applied, applied_state};
@@ -34,6 +36,7 @@ pub struct Progress {
     pub sound: bool,
 }
 
+#[tactic(auto, unfolding(crate::specs::Replay::register_code))]
 fn register_coded(n: u32) -> Coded
     ensures { result ≡ register_code n }
 {
@@ -63,6 +66,7 @@ fn use_coded(k: Kind, n: u32) -> Coded
     Coded::Known(c)
 }
 
+#[tactic(auto, unfolding(crate::specs::Replay::other_code))]
 fn other_coded(code: u32, n: u32) -> Coded
     ensures { result ≡ other_code code n }
 {
@@ -79,6 +83,7 @@ fn other_coded(code: u32, n: u32) -> Coded
 }
 
 // The call that a code and a number stand for.
+#[tactic(auto, unfolding(crate::specs::Replay::coded))]
 pub fn decode(code: u32, n: u32) -> Coded
     ensures { result ≡ coded code n }
 {
@@ -125,6 +130,7 @@ fn make_call(state: State, log: &mut [u64], known: bool, c: Call) -> StateApplie
 }
 
 // One more coded call, with the log lent.
+#[tactic(auto, unfolding(crate::specs::Replay::replay_step))]
 pub fn replay_with(t: Progress, log: &mut [u64], x: Coded) -> Progress
     requires { Going t log.old }
     ensures progress { result ≡ progress_of t.sound (replay_step (replayed_of t log.old) x) }
