@@ -1,8 +1,8 @@
 // The first half minute of an outgoing call in the zone, 002 article 25, note, through a whole account (02, 3/13).
-use super::lines::{number, text};
-use super::windows::again;
+use super::windows::{again, copied};
 use account::Account;
 use state::Answer;
+use std::io;
 use tariff::{Form, Kind, Plan};
 
 // An account on day 730, the first of 2024, whose calls bear a surcharge: one second in the zone on each of the 138
@@ -23,30 +23,26 @@ fn surcharged() -> Account {
     let coded = [1u32, 1, 3, 1, 7, 0];
     let mut calls = [0u8; 24];
     words::put_words(&mut calls, &coded);
-    again(topped.account, &calls, 138)
+    again(&topped.account, &calls, 138)
 }
 
 // Units charged and surcharge points of a call of n seconds.
-fn call_line(a: Account, n: u64) {
-    let used = a.use_units(Kind::Outgoing, n);
-    let answer = used.answer;
-    number(b"E37 seconds ", n);
-    match answer {
+fn call_line(rt: &impl Print, a: &Account, n: u64) -> io::Result<()> {
+    let used = copied(a).use_units(Kind::Outgoing, n);
+    match used.answer {
         Answer::Charged(c) => {
-            number(b" charged ", c.charged);
-            number(b" extra ", c.extra);
+            println!(rt; "E37 seconds {n} charged {} extra {}", c.charged, c.extra)
         }
-        Answer::Refused(m) => number(b" refused ", m),
-        Answer::Done => text(b" done"),
-        Answer::UpTo(m) => number(b" up to ", m),
+        Answer::Refused(m) => println!(rt; "E37 seconds {n} refused {m}"),
+        Answer::Done => println!(rt; "E37 seconds {n} done"),
+        Answer::UpTo(m) => println!(rt; "E37 seconds {n} up to {m}"),
     }
-    text(b"\n");
 }
 
 // The cap of 2024 is 220 a minute.
-pub fn first_half_minute() {
+pub fn first_half_minute(rt: &impl Print) -> io::Result<()> {
     let a = surcharged();
-    call_line(a, 1);
-    call_line(a, 30);
-    call_line(a, 31);
+    call_line(rt, &a, 1)?;
+    call_line(rt, &a, 30)?;
+    call_line(rt, &a, 31)
 }

@@ -2,16 +2,8 @@
 ghost use Rattle.std.specs.Prelude.{◌≡◌, ◌+◌, ◌≤◌};
 ghost use Rattle.tariff.specs.Plan.{BundleFits};
 
+use std::io;
 use tariff::{Allowance, Form, Kind, Plan};
-
-pub fn text(s: &[u8]) {
-    io::write_all(1, s);
-}
-
-pub fn number(s: &[u8], n: u64) {
-    io::write_all(1, s);
-    io::print_decimal(1, n);
-}
 
 // A plan with a data price, for the examples.
 pub fn plan(form: Form, price: u64, fee: u64, volume: u64) -> Plan
@@ -30,39 +22,37 @@ pub fn plan(form: Form, price: u64, fee: u64, volume: u64) -> Plan
 }
 
 // Is the bundle open?
-pub fn open_line(name: &[u8], fee: u64, cap: u64, volume: u64)
+pub fn open_line(rt: &impl Print, name: &str, fee: u64, cap: u64, volume: u64) -> io::Result<()>
     requires { BundleFits fee cap volume }
 {
-    text(name);
     let form = Form::Bundle;
     if tariff::plans::is_open(form, fee, cap, volume) {
-        text(b" open\n");
-        return;
+        return println!(rt; "{name} open");
     }
-    text(b" closed\n");
+    println!(rt; "{name} closed")
 }
 
 // A zone data limit.
-pub fn limit_line(name: &[u8], l: Allowance) {
-    text(name);
+pub fn limit_line(rt: &impl Print, name: &str, l: Allowance) -> io::Result<()> {
     match l {
-        Allowance::NoLimit => text(b" limit none"),
-        Allowance::Kilobytes(n) => number(b" limit ", n),
+        Allowance::NoLimit => println!(rt; "{name} limit none"),
+        Allowance::Kilobytes(n) => println!(rt; "{name} limit {n}"),
     }
-    text(b"\n");
 }
 
 // Which of n zone kB bear the home price and the surcharge, after h kB of the month and r zone kB.
-pub fn split_line(name: &[u8], p: Plan, l: Allowance, h: u64, r: u64, n: u64) {
-    let form = p.form;
-    text(name);
-    number(b" kB ", n);
-    number(
-        b" priced ",
-        tariff::charges::billed_of(form, p.volume, h, n),
-    );
-    number(b" surcharged ", tariff::charges::past_allowance(l, r, n));
-    text(b"\n");
+pub fn split_line(
+    rt: &impl Print,
+    name: &str,
+    p: Plan,
+    l: Allowance,
+    h: u64,
+    r: u64,
+    n: u64,
+) -> io::Result<()> {
+    let priced = tariff::charges::billed_of(p.form, p.volume, h, n);
+    let surcharged = tariff::charges::past_allowance(l, r, n);
+    println!(rt; "{name} kB {n} priced {priced} surcharged {surcharged}")
 }
 
 // Home charges of the month's first n kB.
@@ -94,42 +84,46 @@ fn growth(before: u64, after: u64) -> u64 {
 }
 
 // What a use of n zone kB takes, after m others of the month.
-pub fn use_line(name: &[u8], p: Plan, l: Allowance, cap: u64, m: u64, n: u64)
+pub fn use_line(
+    rt: &impl Print,
+    name: &str,
+    p: Plan,
+    l: Allowance,
+    cap: u64,
+    m: u64,
+    n: u64,
+) -> io::Result<()>
     requires { (p.pergb ≤ 1000000) × (p.perminute ≤ 1000000) × (p.persms ≤ 1000000) × (cap ≤ 1000000)
         × (m + n ≤ 1000000000) }
 {
-    text(name);
-    number(b" use ", n);
-    number(b" home ", growth(home_points(p, m), home_points(p, m + n)));
-    number(
-        b" extra ",
-        growth(surcharge_points(l, cap, m), surcharge_points(l, cap, m + n)),
-    );
-    text(b"\n");
+    let home = growth(home_points(p, m), home_points(p, m + n));
+    let extra = growth(surcharge_points(l, cap, m), surcharge_points(l, cap, m + n));
+    println!(rt; "{name} use {n} home {home} extra {extra}")
 }
 
 // The credit that is left after n zone kB, or that they are refused.
-pub fn credit_line(name: &[u8], credit: u64, p: Plan, l: Allowance, cap: u64, n: u64)
+pub fn credit_line(
+    rt: &impl Print,
+    name: &str,
+    credit: u64,
+    p: Plan,
+    l: Allowance,
+    cap: u64,
+    n: u64,
+) -> io::Result<()>
     requires { (p.pergb ≤ 1000000) × (p.perminute ≤ 1000000) × (p.persms ≤ 1000000) × (cap ≤ 1000000)
         × (n ≤ 1000000000) }
 {
-    text(name);
-    number(b" after ", n);
     let cost = home_points(p, n) + surcharge_points(l, cap, n);
     if cost > credit {
-        text(b" kB refused\n");
-        return;
+        return println!(rt; "{name} after {n} kB refused");
     }
-    number(b" kB credit ", credit - cost);
-    text(b"\n");
+    println!(rt; "{name} after {n} kB credit {}", credit - cost)
 }
 
 // What n kB cost at the home price.
-pub fn cost_line(name: &[u8], p: Plan, n: u64)
+pub fn cost_line(rt: &impl Print, name: &str, p: Plan, n: u64) -> io::Result<()>
     requires { (p.pergb ≤ 1000000) × (p.perminute ≤ 1000000) × (p.persms ≤ 1000000) × (n ≤ 1000000000) }
 {
-    text(name);
-    number(b" kB ", n);
-    number(b" cost ", home_points(p, n));
-    text(b"\n");
+    println!(rt; "{name} kB {n} cost {}", home_points(p, n))
 }

@@ -1,11 +1,12 @@
 // Prepaid credits of source 000, at a cap of 970 lek per GB.
-use super::lines::{cost_line, credit_line, limit_line, number, plan, text, use_line};
+use super::lines::{cost_line, credit_line, limit_line, plan, use_line};
 use account::Account;
 use state::Answer;
+use std::io;
 use tariff::{Form, Kind};
 
 // The largest use of data at home that an account with this price and credit accepts.
-fn afford_line(name: &[u8], price: u64, credit: u32) {
+fn afford_line(rt: &impl Print, name: &str, price: u64, credit: u32) -> io::Result<()> {
     let opened = Account::open(plan(Form::Prepaid, price, 0, 0));
     let coded = [6u32, credit, 1, 0];
     let mut calls = [0u8; 16];
@@ -14,51 +15,49 @@ fn afford_line(name: &[u8], price: u64, credit: u32) {
     let account = ready.account;
     let r = account.afford(Kind::Data);
     let answer = r.answer;
-    text(name);
     match answer {
-        Answer::UpTo(n) => number(b" afford ", n),
-        Answer::Refused(n) => number(b" refused ", n),
-        Answer::Done => text(b" done"),
-        Answer::Charged(_) => text(b" charged"),
+        Answer::UpTo(n) => println!(rt; "{name} afford {n}"),
+        Answer::Refused(n) => println!(rt; "{name} refused {n}"),
+        Answer::Done => println!(rt; "{name} done"),
+        Answer::Charged(_) => println!(rt; "{name} charged"),
     }
-    text(b"\n");
 }
 
 // Example 9: credit 1000 at 20 lek per MB. The credit ends before the limit.
-pub fn example_9() {
+pub fn example_9(rt: &impl Print) -> io::Result<()> {
     let p = plan(Form::Prepaid, 20480, 0, 0);
     let l = tariff::plans::allowance_from(1000, 970);
-    limit_line(b"E14", l);
-    use_line(b"E14", p, l, 970, 0, 51200);
-    use_line(b"E14", p, l, 970, 51200, 51);
-    credit_line(b"E14", 1000, p, l, 970, 51251);
-    credit_line(b"E14", 1000, p, l, 970, 51252);
-    afford_line(b"E14", 20480, 1000);
+    limit_line(rt, "E14", l)?;
+    use_line(rt, "E14", p, l, 970, 0, 51200)?;
+    use_line(rt, "E14", p, l, 970, 51200, 51)?;
+    credit_line(rt, "E14", 1000, p, l, 970, 51251)?;
+    credit_line(rt, "E14", 1000, p, l, 970, 51252)?;
+    afford_line(rt, "E14", 20480, 1000)
 }
 
 // Example 10: credit 2000 at 500 lek per GB.
-pub fn example_10() {
+pub fn example_10(rt: &impl Print) -> io::Result<()> {
     let p = plan(Form::Prepaid, 500, 0, 0);
-    limit_line(b"E15", tariff::plans::allowance_from(2000, 970));
-    cost_line(b"E15", p, 4194304);
-    afford_line(b"E15", 500, 2000);
+    limit_line(rt, "E15", tariff::plans::allowance_from(2000, 970))?;
+    cost_line(rt, "E15", p, 4194304)?;
+    afford_line(rt, "E15", 500, 2000)
 }
 
 // Example 11: all of that limit used, and more.
-pub fn example_11() {
+pub fn example_11(rt: &impl Print) -> io::Result<()> {
     let p = plan(Form::Prepaid, 500, 0, 0);
     let l = tariff::plans::allowance_from(2000, 970);
-    cost_line(b"E16", p, 2162012);
-    credit_line(b"E16", 2000, p, l, 970, 2162012);
-    use_line(b"E16", p, l, 970, 2162012, 692211);
-    credit_line(b"E16", 2000, p, l, 970, 2854223);
-    credit_line(b"E16", 2000, p, l, 970, 2854224);
-    use_line(b"E17", p, l, 970, 2162012, 1048576);
-    credit_line(b"E17", 2000, p, l, 970, 3210588);
+    cost_line(rt, "E16", p, 2162012)?;
+    credit_line(rt, "E16", 2000, p, l, 970, 2162012)?;
+    use_line(rt, "E16", p, l, 970, 2162012, 692211)?;
+    credit_line(rt, "E16", 2000, p, l, 970, 2854223)?;
+    credit_line(rt, "E16", 2000, p, l, 970, 2854224)?;
+    use_line(rt, "E17", p, l, 970, 2162012, 1048576)?;
+    credit_line(rt, "E17", 2000, p, l, 970, 3210588)
 }
 
 // Paragraph 101: credits of 500 and 1000.
-pub fn illustrations() {
-    limit_line(b"E18", tariff::plans::allowance_from(500, 970));
-    limit_line(b"E18", tariff::plans::allowance_from(1000, 970));
+pub fn illustrations(rt: &impl Print) -> io::Result<()> {
+    limit_line(rt, "E18", tariff::plans::allowance_from(500, 970))?;
+    limit_line(rt, "E18", tariff::plans::allowance_from(1000, 970))
 }
