@@ -54,20 +54,18 @@ pub fn copy(from: &Path, to: &Path) -> io::Result<()> {
     copy_by(from, to, &|_| false)
 }
 
-/// A copy of what the checker needs of the crates of these names, to be the top of a repository.
-pub fn copy_sources(root: &Path, to: &Path, names: &[&str]) -> io::Result<()> {
+/// A copy of what the checker needs of the crates, to be the top of a repository.
+pub fn copy_sources(root: &Path, to: &Path) -> io::Result<()> {
     fs::create_dir_all(to.join(".git"))?;
     for file in ["crates.txt", "HANDLES"] {
         if root.join(file).is_file() {
             fs::copy(root.join(file), to.join(file))?;
         }
     }
-    for name in names {
-        for part in PARTS {
-            let from = root.join("crates").join(name).join(part);
-            if from.is_dir() {
-                copy(&from, &to.join("crates").join(name).join(part))?;
-            }
+    for dir in entries(&root.join("crates"))? {
+        for part in PARTS.iter().filter(|part| dir.join(part).is_dir()) {
+            let target = to.join("crates").join(name_of(&dir)).join(part);
+            copy(&dir.join(part), &target)?;
         }
     }
     Ok(())
@@ -167,11 +165,11 @@ mod tests {
             "root/crates/a/src/lib.rt",
             "root/crates/a/out/rlib/stamp",
             "root/crates/a/edits/e.edit",
-            "root/crates/b/src/lib.rt",
+            "root/docs/LIST.md",
         ];
         let dir = made("copied", &files);
         let (root, to) = (dir.join("root"), dir.join("copy"));
-        copy_sources(&root, &to, &["a"]).unwrap();
+        copy_sources(&root, &to).unwrap();
         take_library(&root, &to, "a").unwrap();
         let all = files_below(&to).unwrap();
         let inside = |p: &PathBuf| p.strip_prefix(&to).unwrap().display().to_string();

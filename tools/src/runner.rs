@@ -96,8 +96,7 @@ pub fn run(settings: &Run, crates: &[Crate]) -> Result<Outcome, String> {
         Some(_) => scratch.join("base"),
     };
     if settings.others_end.is_some() {
-        let names: Vec<&str> = all.iter().map(String::as_str).collect();
-        folder::copy_sources(&settings.root, &base, &names).map_err(|e| format!("a copy: {e}"))?;
+        folder::copy_sources(&settings.root, &base).map_err(|e| format!("a copy: {e}"))?;
     }
     let planned: Vec<Planned> = crates.iter().map(|c| plan(&settings.root, c)).collect();
     let work = Work {
@@ -267,12 +266,12 @@ impl Work<'_> {
         }
     }
 
-    /// A copy of the sources of a crate and of all below it, with the libraries as they were proved.
+    /// A copy of the sources, with the libraries below a crate as they were proved.
     fn prepare(&self, dir: &Path, name: &str) -> std::io::Result<()> {
         let all = list::with_all_below([name.to_string()], &self.used);
-        let there = |n: &&str| !dir.join("crates").join(n).is_dir();
-        let names: Vec<&str> = all.iter().map(String::as_str).filter(there).collect();
-        folder::copy_sources(&self.settings.root, dir, &names)?;
+        if !dir.is_dir() {
+            folder::copy_sources(&self.settings.root, dir)?;
+        }
         let libraries = all.iter().filter(|n| *n != name);
         libraries
             .into_iter()
