@@ -1,6 +1,6 @@
 # Used by ./statement, ./explain, ./export, ./import, ./library, ./edits and ./test: the toolchain's version, one build at
-# a time, a folder for temporary files, and a build that shows how far it is. `here` is the top of the repository, and
-# `name` the command that builds. What is said of the work goes to standard error.
+# a time, and a build that shows how far it is. `here` is the top of the repository, and `name` the command that builds.
+# What is said of the work goes to standard error.
 
 logs=$here/logs
 
@@ -11,36 +11,21 @@ other_toolchain() {
     [ "$found" = "$made" ] || printf 'the proofs were made with "%s", and here is "%s"\n' "$made" "$found"
 }
 
-# Takes the lock on target/, which is kept until the script and all that it started have ended. What ./test runs goes
-# on under the test's own.
+# Takes the lock on what is built here, which is kept until the script and all that it started have ended. What ./test
+# runs goes on under the test's own.
 lock() { # NAME
-    [ "${target_locked:-no}" = no ] || return 0
+    [ "${built_locked:-no}" = no ] || return 0
     mkdir -p "$logs" && exec 9>>"$logs/lock" || return 1
     flock -n 9 && return
     echo "$1: waiting for another build or test of this repository to end" >&2
     flock 9
 }
 
-# A folder for temporary files, in memory where there is room: the checker makes and removes thousands of small files at
-# each check, which some file systems are slow at. Whoever calls this removes "$scratch" at the end; one that a process
-# left behind when it was killed is removed here.
-scratch_folder() {
-    for left in /dev/shm/meter.*; do
-        [ ! -d "$left" ] || kill -0 "${left##*.}" 2>/dev/null || rm -rf "$left"
-    done
-    free=$(df -Pk /dev/shm 2>/dev/null | awk 'NR == 2 { print $4 }')
-    scratch=/dev/shm/meter.$$
-    if [ -n "${TMPDIR:-}" ] || [ "${free:-0}" -lt 4194304 ] || ! mkdir "$scratch" 2>/dev/null; then
-        scratch=$(mktemp -d) || return 1
-    fi
-    chmod 755 "$scratch" && export TMPDIR="$scratch" # rt runs programs in a folder below it as another user
-}
-
 # How many crates of the repository NAME needs, itself among them.
 count_of() { # NAME
     awk -v want="$1" '
         { sub(/#.*/, ""); at = index($0, ":"); if (!at) next
-          name = substr($0, 1, at - 1); gsub(/[ \t]/, "", name); deps[name] = substr($0, at + 1) }
+          name = substr($0, 1, at - 1); sub(/[ \t].*/, "", name); deps[name] = substr($0, at + 1) }
         function visit(n, parts, k, m) {
             if (!(n in deps) || n in seen) return
             seen[n] = 1; count++
@@ -50,60 +35,72 @@ count_of() { # NAME
         END { visit(want); print count + 0 }' "$here/crates.txt"
 }
 
-# Was RESULT, a file that is built of the crate, built from the sources as they are, with this toolchain?
-fresh() { # CRATE RESULT
-    [ -s "$here/$2" ] && [ -f "$here/target/built-$1" ] || return 1
-    now=$(rt version 2>/dev/null) && [ "$now" != "$(cat "$here/target/built-$1")" ] && return 1
-    changed=$(find "$here/crates.txt" "$here/crates" \( -name edits -o -name must-fail \) -prune -o \
-        -newer "$here/target/built-$1" -print 2>/dev/null | head -n 1)
-    [ -z "$changed" ]
+# The files that are built from, as find prints them; with -newer FILE those alone that were changed after it.
+sources() { # [-newer FILE]
+    find "$here/crates.txt" "$here/crates" \( -name out -o -name edits -o -name must-fail \) -prune -o -type f "$@" -print
 }
 
-# Shows each crate of a build as it ends; those that did not change are only counted. The last one of an archive is
-# shown when it begins, too.
-show_build() { # CRATE COUNT COMMAND
-    number=0
+# Notes with which toolchain something is built, and of files of which names. It is written before a build begins, and
+# stands beside the result when it has ended, as RESULT.built.
+note_build() { # FILE
+    { rt version && sources | sort | cksum; } >"$1"
+}
+
+# Was RESULT built from the sources as they are, with this toolchain?
+fresh() { # RESULT
+    note=$here/$1.built
+    [ -s "$here/$1" ] && [ -f "$note" ] || return 1
+    now=$(rt version 2>/dev/null) && [ "$now" != "$(sed -n 1p "$note")" ] && return 1
+    [ "$(sources | sort | cksum)" = "$(sed -n 2p "$note")" ] || return 1
+    [ -z "$(sources -newer "$note" | head -n 1)" ]
+}
+
+# Shows each crate of a build that is proved; those that did not change are passed over.
+show_build() { # COUNT
+    number=0 crate=''
     while IFS= read -r line; do
         case $line in
-        'rt: '*' proved (unchanged'*) number=$((number + 1)) ;;
-        'rt: '*' proved ('* | 'rt: '*' NOT PROVED'*)
+        'crate '*': modules '*)
+            crate=${line#crate }
+            crate=${crate%%:*}
+            ;;
+        'logic=proved '*)
             number=$((number + 1))
-            echo "$name: crate $number of $2: ${line#rt: }" >&2
+            echo "$name: crate $number of at most $1: $crate is proved" >&2
             ;;
-        'rt: target/staticlib/'*)
-            echo "$name: crate $2 of $2: $1 proved, and its archive built" >&2
-            continue
-            ;;
-        *) continue ;;
         esac
-        if [ "$3" = staticlib ] && [ "$number" -eq $(($2 - 1)) ]; then
-            echo "$name: crate $2 of $2: proving $1 and building its archive, which takes about a minute" >&2
-        fi
     done
 }
 
-# Builds RESULT of the crate with rt COMMAND, where it is missing or older than its sources.
-built() { # CRATE COMMAND RESULT
-    ! fresh "$1" "$3" || return 0
-    command -v rt >/dev/null || { echo "$name: $3 has to be built, and rt is not on the path" >&2; return 1; }
+# Builds RESULT of the crate by rt's VERB, where it is missing or older than its sources. MADE is the file that rt makes;
+# where RESULT is another one, it is made of it by the command that follows.
+built() { # CRATE VERB MADE RESULT [COMMAND...]
+    ! fresh "$4" || return 0
+    command -v rt >/dev/null || { echo "$name: $4 has to be built, and rt is not on the path" >&2; return 1; }
     lock "$name" || { echo "$name: cannot lock $logs/lock" >&2; return 1; }
-    if fresh "$1" "$3"; then # another build was waited for
+    if fresh "$4"; then # another build was waited for
         exec 9>&-
         return 0
     fi
     what=$(other_toolchain)
     [ -z "$what" ] || echo "$name: warning: $what" >&2
     log=$logs/build-$name.log
-    echo "$name: building, as $3 is missing or its sources changed; from nothing it takes some minutes" >&2
-    mkdir -p "$here/target" "$logs"
-    rt version >"$here/target/.began-$1"
-    { (cd "$here" && rt "$2" "$1") </dev/null 2>&1; echo "exit $?"; } | tee "$log" |
-        show_build "$1" "$(count_of "$1")" "$2"
-    if [ "$(tail -n 1 "$log")" != "exit 0" ] || [ ! -s "$here/$3" ]; then
+    echo "$name: building, as $4 is missing or its sources changed; from nothing it takes some minutes" >&2
+    mkdir -p "$logs" "$here/${4%/*}" || return 1
+    crate=$1 verb=$2 made=$3 result=$4
+    shift 4
+    note_build "$logs/.began-$name" || return 1
+    # Where the program itself ends otherwise than with 0 on no input, rt does, too: it is built once it runs.
+    { (cd "$here/crates/$crate" && rt "$verb") </dev/null 2>&1; echo "exit $?"; } | tee "$log" |
+        show_build "$(count_of "$crate")"
+    case $verb in
+    run) grep -q "^rt: running out/$crate;" "$log" ;;
+    *) [ "$(tail -n 1 "$log")" = "exit 0" ] ;;
+    esac && [ -s "$here/$made" ] && "${@:-true}" || {
         echo "$name: the build failed; the last lines of $log:" >&2
         tail -n 12 "$log" | cut -c 1-200 | sed 's/^/    /' >&2
         return 1
-    fi
-    mv "$here/target/.began-$1" "$here/target/built-$1"
+    }
+    mv "$logs/.began-$name" "$here/$result.built"
     exec 9>&-
 }

@@ -147,7 +147,7 @@ done <cases.txt
 while IFS= read -r line; do
     begin "import of the line '$line'"
     printf 'topup,1\n%s\n' "$line" >"$scratch/text"
-    run "$scratch/text" "$here/target/bin/import" 0 1461 0 0 0 0 0
+    run "$scratch/text" "$here/crates/import/out/import" 0 1461 0 0 0 0 0
     ended_with 0
     printed_nothing
     [ "$(cat "$err")" = "text 22 line 2" ] || wrong "told something else: $(head -n 1 "$err")"

@@ -49,10 +49,11 @@ take_input() { # [--] [FILE]
     fi
 }
 
-# Builds the program where it has to be.
+# Builds the program where it has to be: `program` is where it is then.
 build_program() {
     . "$here/tools/build.sh"
-    built "$name" check "target/bin/$name" || exit 2
+    built "$name" run "crates/$name/out/$name" "crates/$name/out/$name" || exit 2
+    program=$here/crates/$name/out/$name
 }
 
 # Builds the program where it has to be, and runs it on the input: `text` is what it printed. What it says on standard
@@ -61,7 +62,7 @@ run_program() { # [ERRORS]
     build_program
     # No file has more than 65,536 bytes, so that a few more are enough to tell a longer one.
     text=$({ { head -c 65540 || echo 'no input' >&3; } |
-        "$here/target/bin/$name" 2>&"${1:-2}" || echo 'no end' >&3; } 3>&1)
+        "$program" 2>&"${1:-2}" || echo 'no end' >&3; } 3>&1)
     case $text in
     *'no input'*) fail "the input cannot be read" ;;
     *'no end'* | '') fail "the program ended badly" ;;

@@ -1,7 +1,10 @@
-//! Folders: a copy of the repository for a worker, and lists of files.
+//! Folders: copies of the repository, and lists of files.
 use std::fs;
 use std::io;
 use std::path::{Path, PathBuf};
+
+/// What the checker reads of a crate.
+pub const PARTS: [&str; 3] = ["src", "specs", "proofs"];
 
 /// All files below a folder, in order.
 pub fn files_below(dir: &Path) -> io::Result<Vec<PathBuf>> {
@@ -33,73 +36,79 @@ pub fn name_of(path: &Path) -> String {
         .into_owned()
 }
 
-pub fn copy(from: &Path, to: &Path) -> io::Result<()> {
+/// Copies a folder; a file that the test names gets a second name instead, where that can be.
+fn copy_by(from: &Path, to: &Path, linked: &dyn Fn(&Path) -> bool) -> io::Result<()> {
     fs::create_dir_all(to)?;
     for path in entries(from)? {
         let target = to.join(name_of(&path));
         if path.is_dir() {
-            copy(&path, &target)?;
-        } else {
+            copy_by(&path, &target, linked)?;
+        } else if !linked(&path) || fs::hard_link(&path, &target).is_err() {
             fs::copy(&path, &target)?;
         }
     }
     Ok(())
 }
 
-/// A copy of the sources that the checker needs of the repository.
+pub fn copy(from: &Path, to: &Path) -> io::Result<()> {
+    copy_by(from, to, &|_| false)
+}
+
+/// A copy of what the checker needs of the crates, to be the top of a repository.
 pub fn copy_sources(root: &Path, to: &Path) -> io::Result<()> {
-    fs::create_dir_all(to)?;
-    fs::copy(root.join("crates.txt"), to.join("crates.txt"))?;
+    fs::create_dir_all(to.join(".git"))?;
+    for file in ["crates.txt", "HANDLES"] {
+        if root.join(file).is_file() {
+            fs::copy(root.join(file), to.join(file))?;
+        }
+    }
     for dir in entries(&root.join("crates"))? {
-        for part in ["src", "specs", "proofs", "stdin", "stdout", "args", "data"] {
-            let (from, target) = (
-                dir.join(part),
-                to.join("crates").join(name_of(&dir)).join(part),
-            );
-            if from.is_dir() {
-                copy(&from, &target)?;
-            } else if from.is_file() {
-                fs::copy(&from, &target)?;
-            }
+        for part in PARTS.iter().filter(|part| dir.join(part).is_dir()) {
+            let target = to.join("crates").join(name_of(&dir)).join(part);
+            copy(&dir.join(part), &target)?;
         }
     }
     Ok(())
 }
 
-/// Is the crate proved? `rt` writes its stamp when it is, after its library.
-pub fn is_proved(root: &Path, name: &str) -> bool {
-    root.join("target/stamp").join(name).is_file()
+/// Gives a copy the built library of a crate. `rt` removes the files of a library before it makes them anew.
+pub fn take_library(base: &Path, to: &Path, name: &str) -> io::Result<()> {
+    let library = |top: &Path| top.join("crates").join(name).join("out/rlib");
+    if library(to).is_dir() {
+        return Ok(());
+    }
+    copy_by(&library(base), &library(to), &|_| true)
 }
 
-/// Copies the libraries of all crates that are proved by now, as far as they are not there yet.
-pub fn copy_proved(root: &Path, to: &Path) -> io::Result<()> {
-    fs::create_dir_all(to.join("target/stamp"))?;
-    for stamp in entries(&root.join("target/stamp"))? {
-        let name = name_of(&stamp);
-        let library = format!("target/rlib/{name}.rlib");
-        if is_proved(to, &name) || !root.join(&library).is_dir() {
-            continue;
+/// Makes anew what a check of the crate begins with: what was checked when it was proved, and nothing else. The checker
+/// replaces the files of checked modules, and changes none.
+pub fn renew_work(base: &Path, to: &Path, name: &str) -> io::Result<()> {
+    let work = |top: &Path| top.join("crates").join(name).join("out/incremental");
+    if work(to).exists() {
+        fs::remove_dir_all(work(to))?;
+    }
+    let module = |file: &Path| file.extension().is_some_and(|e| e == "oantt");
+    match work(base).is_dir() {
+        true => copy_by(&work(base), &work(to), &module),
+        false => Ok(()),
+    }
+}
+
+/// A folder for this process among the temporary files; those of processes that were killed are removed.
+pub fn scratch(purpose: &str) -> io::Result<PathBuf> {
+    let all = std::env::temp_dir();
+    for path in entries(&all).unwrap_or_default() {
+        let name = name_of(&path);
+        let number = name.strip_prefix(&format!("{purpose}-"));
+        let gone =
+            |n: &str| n.chars().all(|c| c.is_ascii_digit()) && !Path::new("/proc").join(n).exists();
+        if number.is_some_and(gone) && Path::new("/proc/self").exists() {
+            let _ = fs::remove_dir_all(&path);
         }
-        copy(&root.join(&library), &to.join(&library))?;
-        fs::copy(&stamp, to.join("target/stamp").join(&name))?;
     }
-    Ok(())
-}
-
-/// Makes a crate's incremental folder anew, with the modules that were checked when the crate was proved, so that a check
-/// over it has to look only at what an edit changed. Where a library is not laid out as expected the folder is empty,
-/// and the check is a whole one.
-pub fn renew_incremental(dir: &Path, name: &str) -> io::Result<()> {
-    let folder = dir.join("target/inc").join(name);
-    let _ = fs::remove_dir_all(&folder);
-    let library = dir.join(format!("target/rlib/{name}.rlib"));
-    let format = fs::read_to_string(library.join("format"))?;
-    let build = format.lines().find_map(|l| l.strip_prefix("rattle-build "));
-    let checked = library.join("toolchain/checked");
-    match build {
-        Some(build) if checked.is_dir() => copy(&checked, &folder.join(build.replace('/', "_"))),
-        _ => Ok(()),
-    }
+    let own = all.join(format!("{purpose}-{}", std::process::id()));
+    fs::create_dir_all(&own)?;
+    Ok(own)
 }
 
 /// The bytes of all files below a folder; 0 where there is none.
@@ -115,21 +124,62 @@ pub fn size(dir: &Path) -> u64 {
 mod tests {
     use super::*;
 
+    /// A folder of its own for a test, which the test removes.
+    fn made(name: &str, files: &[&str]) -> PathBuf {
+        let dir = std::env::temp_dir().join(format!("folder-{name}-{}", std::process::id()));
+        for file in files {
+            let path = dir.join(file);
+            fs::create_dir_all(path.parent().unwrap()).unwrap();
+            fs::write(path, "as it was").unwrap();
+        }
+        dir
+    }
+
     #[test]
     fn a_check_begins_with_what_was_checked_and_nothing_else() {
-        let dir = std::env::temp_dir().join(format!("edits-folder-{}", std::process::id()));
-        let library = dir.join("target/rlib/a.rlib");
-        fs::create_dir_all(library.join("toolchain/checked")).unwrap();
-        fs::write(library.join("format"), "rattle rlib\nrattle-build x/y\n").unwrap();
-        fs::write(library.join("toolchain/checked/m"), "module").unwrap();
-        let folder = dir.join("target/inc/a/x_y");
-        fs::create_dir_all(&folder).unwrap();
-        fs::write(folder.join("m"), "of an edit").unwrap();
-        fs::write(folder.join("n"), "of an edit").unwrap();
-        renew_incremental(&dir, "a").unwrap();
-        let held = fs::read_to_string(folder.join("m"));
-        let names = entries(&folder).unwrap().len();
-        fs::remove_dir_all(&dir).unwrap();
-        assert_eq!((held.unwrap().as_str(), names), ("module", 1));
+        let files = [
+            "base/crates/a/out/incremental/x/m.oantt",
+            "base/crates/a/out/incremental/x/judged",
+            "copy/crates/a/out/incremental/x/n.oantt",
+        ];
+        let dir = made("renewed", &files);
+        renew_work(&dir.join("base"), &dir.join("copy"), "a").unwrap();
+        let work = dir.join("copy/crates/a/out/incremental/x");
+        fs::write(work.join("judged"), "of an edit").unwrap();
+        fs::remove_file(work.join("m.oantt")).unwrap();
+        fs::write(work.join("m.oantt"), "of an edit").unwrap();
+        let kept = |file: &str| fs::read_to_string(dir.join(file)).unwrap();
+        let names: Vec<String> = entries(&work).unwrap().iter().map(|p| name_of(p)).collect();
+        let (module, judged) = (kept(files[0]), kept(files[1]));
+        renew_work(&dir.join("base"), &dir.join("copy"), "a").unwrap();
+        let again = fs::read_to_string(work.join("judged")).unwrap();
+        fs::remove_dir_all(dir).unwrap();
+        assert_eq!(names, ["judged", "m.oantt"]);
+        assert_eq!([module, judged, again], ["as it was"; 3]);
+    }
+
+    #[test]
+    fn a_copy_has_what_the_checker_reads_and_no_more() {
+        let files = [
+            "root/crates.txt",
+            "root/crates/a/src/lib.rt",
+            "root/crates/a/out/rlib/stamp",
+            "root/crates/a/edits/e.edit",
+            "root/docs/LIST.md",
+        ];
+        let dir = made("copied", &files);
+        let (root, to) = (dir.join("root"), dir.join("copy"));
+        copy_sources(&root, &to).unwrap();
+        take_library(&root, &to, "a").unwrap();
+        let all = files_below(&to).unwrap();
+        let inside = |p: &PathBuf| p.strip_prefix(&to).unwrap().display().to_string();
+        let names: Vec<String> = all.iter().map(inside).collect();
+        fs::remove_dir_all(dir).unwrap();
+        let due = [
+            "crates/a/out/rlib/stamp",
+            "crates/a/src/lib.rt",
+            "crates.txt",
+        ];
+        assert_eq!(names, due);
     }
 }

@@ -269,7 +269,7 @@ fn a_statement_that_is_not_the_trees() {
         "no definition that reads as this one",
     );
     finds(
-        "longer",
+        "lengthened",
         SOURCE,
         &SPECS.replace("≡ true", "≡ true\n    → ⊥"),
         &all,

@@ -1,10 +1,9 @@
 //! Tries the wrong programs in crates/*/edits: the checker must refuse each.
 //! `edits [--jobs N] [--logs DIR] [--beside FILE] [CRATE | CRATE/NAME]...`, from the top of the repository. With --beside
-//! the crates are being proved meanwhile by another command, after which FILE is there: each crate is taken up once it
-//! is proved. The last line is `edits: N tried, 0 not refused` if all is well.
-use std::io::{BufRead, BufReader};
+//! another command is at work on the crates here, after which FILE is there: a copy is proved, and there are two checks
+//! at a time until then. The last line is `edits: N tried, 0 not refused` if all is well.
 use std::path::PathBuf;
-use std::process::{Command, ExitCode, Stdio};
+use std::process::ExitCode;
 use tools::list;
 use tools::runner::{self, Run};
 
@@ -60,24 +59,20 @@ fn try_all(a: Arguments) -> Result<bool, String> {
         return Err("run it from the top of the repository, where crates.txt stands".into());
     }
     let crates = list::crates(&root, &a.crates)?;
-    let names: Vec<String> = crates.iter().map(|c| c.name.clone()).collect();
     let count: usize = crates.iter().map(|c| c.edits.len()).sum();
     println!(
         "edits: {count} edits of {} crates, {} at a time; logs in {}",
-        names.len(),
+        crates.len(),
         a.jobs,
         a.logs.display()
     );
-    if a.beside.is_none() {
-        prove(&names)?;
-    }
     let settings = Run {
         root,
         logs: a.logs,
         workers: a.jobs,
-        proofs_end: a.beside,
+        others_end: a.beside,
     };
-    let outcome = runner::run(&settings, crates)?;
+    let outcome = runner::run(&settings, &crates)?;
     for line in &outcome.wrong {
         println!("edits: WRONG: {line}");
     }
@@ -93,26 +88,4 @@ fn try_all(a: Arguments) -> Result<bool, String> {
         outcome.wrong.len()
     );
     Ok(outcome.wrong.is_empty() && outcome.tried == count)
-}
-
-/// The crates as they are must be proved; at once where nothing changed since they were.
-fn prove(names: &[String]) -> Result<(), String> {
-    let failed = |e: std::io::Error| format!("rt cannot be run: {e}");
-    let mut child = Command::new("rt")
-        .arg("check")
-        .args(names)
-        .stdin(Stdio::null())
-        .stdout(Stdio::piped())
-        .spawn()
-        .map_err(failed)?;
-    for line in BufReader::new(child.stdout.take().expect("it is piped")).lines() {
-        let line = line.map_err(failed)?;
-        if line.starts_with("rt: ") && !line.contains("unchanged") {
-            println!("{line}");
-        }
-    }
-    if child.wait().map_err(failed)?.success() {
-        return Ok(());
-    }
-    Err("the crates are not proved as they are; 'rt check' says why".into())
 }
