@@ -1,4 +1,6 @@
 // The figures that the program `statement` prints, from the bytes of a trip file (statement-1, statement-2).
+#![tactic(auto)]
+
 ghost use Rattle.std.specs.Prelude.{◌≡◌};
 ghost use Rattle.tripfile.specs.Reading.{read_of};
 ghost use Rattle.report.specs.Handed.{ReaderHandsOutCalls};

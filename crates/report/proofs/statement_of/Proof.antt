@@ -5,15 +5,15 @@ use borrow.Author.Rules.{rules}
 use Rattle.report.proofs.statement_of.Statement.{statement}
 use Rattle.report.proofs.statement_of.Tie as tie
 
-trip-figures-requires : tie.Need-trip-figures-requires
-trip-figures-requires c κs = sym c.before.before.before.read.ensures ∙ c.before.read2.given.1
+trip-figures-requires : tie.Need-trip_figures-f-requires
+trip-figures-requires c κs = sym c.read-read.ensures ∙ c.in-Trip.is
 
-returns : tie.Need-returns
-returns c = let e = sym c.before.before.before.before.read.ensures ∙ c.before.before.read2.given.1 in
-    simp c.trip-figures.ensures (reported _ _ _ e)
+returns : tie.Need-returns-in-Trip
+returns c = let e = sym c.read-read.ensures ∙ c.in-Trip.is in
+    simp c.trip_figures-f.ensures (reported _ _ _ e)
 
-returns-2 : tie.Need-returns-2
-returns-2 c = declined _ _ (sym c.before.before.before.read.ensures ∙ c.before.read3.given.1)
+returns-2 : tie.Need-returns-in-Refused
+returns-2 c = declined _ _ (sym c.read-read.ensures ∙ c.in-Refused.is)
 
 pub statement_of_spec : {M : Type 1} → statement M
 statement_of_spec =
