@@ -1,4 +1,6 @@
 // The text that the program `statement` prints, put into a lent buffer (statement-1 to statement-3).
+#![tactic(auto)]
+
 ghost use Rattle.std.specs.Prelude.{◌≡◌, ◌+◌, ◌≤◌, length};
 ghost use Rattle.text.specs.Text.{placed, decimal};
 ghost use Rattle.printout.specs.Printout.{ended, limit_line, money_lines, data_lines, text_of, statement_text};

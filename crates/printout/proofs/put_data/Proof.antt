@@ -9,10 +9,10 @@ use Rattle.printout.proofs.put_data.Tie as tie
 returns : tie.Need-returns
 unfolding data_lines
 returns c =
-    let one = c.before.before.before.before.before.before.before.before.before.before.before.before.before.before.before.before.before.put-limit.ensures in
-    let two = c.before.before.before.before.before.before.before.before.before.before.before.before.put-line.ensures in
-    let three = c.before.before.before.before.before.before.before.put-line2.ensures in
-    let four = c.before.before.put-line3.ensures in
+    let one = c.put_limit-next.ensures in
+    let two = c.put_line-next.ensures in
+    let three = c.put_line-next-2.ensures in
+    let four = c.put_line.ensures in
     let p = put_next _ _ _ _ _ _ _ _ (record { buffer = one.1.1; end = one.0 }) (omega arith) two.1.1 two.0 in
     let q = put_next _ _ _ _ _ _ _ _ p (omega arith) three.1.1 three.0 in
     let r = put_next _ _ _ _ _ _ _ _ q (omega arith) four.1.1 four.0 in

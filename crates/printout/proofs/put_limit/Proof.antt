@@ -6,17 +6,17 @@ use Rattle.printout.specs.Printout.{limit_line}
 use Rattle.printout.proofs.put_limit.Statement.{statement}
 use Rattle.printout.proofs.put_limit.Tie as tie
 
-returns : tie.Need-returns
+returns : tie.Need-returns-in-NoLimit
 unfolding limit_line
 returns c =
-    let put = c.before.before.put-bytes.ensures in
-    rw c.before.before.before.before.before.enum_told.given.1 (put.0, (omega arith, put.1))
+    let put = c.put_bytes.ensures in
+    rw c.in-NoLimit.is (put.0, (omega arith, put.1))
 
-returns-2 : tie.Need-returns-2
+returns-2 : tie.Need-returns-in-Kilobytes
 unfolding limit_line
 returns-2 c =
-    let put = c.before.before.put-line.ensures in
-    rw c.before.before.before.before.before.before.l.given.1 (put.0, (omega arith, put.1.1))
+    let put = c.put_line.ensures in
+    rw c.in-Kilobytes.is (put.0, (omega arith, put.1.1))
 
 pub put_limit_spec : {M : Type 1} → statement M
 put_limit_spec =

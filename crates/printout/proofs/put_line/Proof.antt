@@ -6,19 +6,18 @@ use Rattle.text.proofs.Placing.{put_next}
 use Rattle.printout.proofs.put_line.Statement.{statement}
 use Rattle.printout.proofs.put_line.Tie as tie
 
-put-decimal-requires : tie.Need-put-decimal-requires
-put-decimal-requires c κs = omega (arith, u64_digits c.before.before.before.before.before.before.before.args.n (omega arith))
+put-decimal-requires : tie.Need-put_decimal-feed-requires
+put-decimal-requires c κs = omega (arith, u64_digits c.args.n (omega arith))
 
-put-bytes-requires-2 : tie.Need-put-bytes-requires-2
-put-bytes-requires-2 c κs = omega (arith, u64_digits c.before.before.before.before.before.before.before.before.before.before.before.before.args.n (omega arith))
+put-bytes-requires-2 : tie.Need-put_bytes-requires
+put-bytes-requires-2 c κs = omega (arith, u64_digits c.args.n (omega arith))
 
 returns : tie.Need-returns
 returns c =
-    let b = c.before.before.before.before.before.before.before.before.before.before.before.before.before.before.before in
-    let short = u64_digits b.args.n (omega arith) in
-    let one = c.before.before.before.before.before.before.before.before.before.before.before.put-bytes.ensures in
-    let two = c.before.before.before.before.before.before.before.put-decimal.ensures in
-    let three = c.before.before.put-bytes2.ensures in
+    let short = u64_digits c.args.n (omega arith) in
+    let one = c.put_bytes-figure.ensures in
+    let two = c.put_decimal-feed.ensures in
+    let three = c.put_bytes.ensures in
     let p = put_next _ _ _ _ _ _ _ _ (put_next _ _ _ _ _ _ _ _ (record { buffer = one.1; end = one.0 }) (omega arith) two.1 two.0) (omega arith) three.1 three.0 in
     (p.end, (omega arith, p.buffer))
 

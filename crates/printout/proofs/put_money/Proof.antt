@@ -9,11 +9,11 @@ use Rattle.printout.proofs.put_money.Tie as tie
 returns : tie.Need-returns
 unfolding money_lines
 returns c =
-    let one = c.before.before.before.before.before.before.before.before.before.before.before.before.before.before.before.before.before.before.before.before.before.before.put-line.ensures in
-    let two = c.before.before.before.before.before.before.before.before.before.before.before.before.before.before.before.before.before.put-line2.ensures in
-    let three = c.before.before.before.before.before.before.before.before.before.before.before.before.put-line3.ensures in
-    let four = c.before.before.before.before.before.before.before.put-line4.ensures in
-    let five = c.before.before.put-line5.ensures in
+    let one = c.put_line-at.ensures in
+    let two = c.put_line-at-2.ensures in
+    let three = c.put_line-at-3.ensures in
+    let four = c.put_line-at-4.ensures in
+    let five = c.put_line.ensures in
     let p = put_next _ _ _ _ _ _ _ _ (record { buffer = one.1.1; end = one.0 }) (omega arith) two.1.1 two.0 in
     let q = put_next _ _ _ _ _ _ _ _ p (omega arith) three.1.1 three.0 in
     let r = put_next _ _ _ _ _ _ _ _ q (omega arith) four.1.1 four.0 in

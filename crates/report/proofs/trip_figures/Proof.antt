@@ -12,7 +12,7 @@ returns : tie.Need-returns
 returns c = let t = c.section_with-t in
     let l = c.log_empty-log in
     let o = c.open_with-opened in
-    c.show_figures.ensures ∙ trip_shown _ _ c.args.calls o.result l.result c.part.result.now t.new.1.1.0 t.result c.requires o.ensures l.ensures c.part.ensures.0 t.ensures
+    c.show_figures.ensures ∙ trip_shown _ _ c.args.calls o.result l.result c.part.result.now t.new.log t.result c.requires o.ensures l.ensures c.part.ensures.0 t.ensures
 
 pub trip_figures_spec : {M : Type 1} → statement M
 trip_figures_spec = tie.close (tie.spec (λ c κs. search rules) (λ c κs. search rules) part-requires (λ c. search rules) (λ c κs. search rules) (λ c κs. search rules) returns)
