@@ -69,7 +69,7 @@ declared() {
 
 # The functions that the crate exports, in the same form. A slice passes as its pointer, then its count.
 exported() {
-    cat crates/meter/src/*.rt | awk '
+    cat crates/meter_c/src/*.rt | awk '
         BEGIN {
             c["u64"] = "uint64_t"; c["u32"] = "uint32_t"; c["usize"] = "size_t"
             c["&[u64]"] = "const uint64_t *,size_t"; c["&mut [u64]"] = "uint64_t *,size_t"
@@ -101,7 +101,7 @@ check_header() {
     declared >"$scratch/declared"
     exported >"$scratch/exported"
     if ! diff "$scratch/declared" "$scratch/exported" >"$scratch/differences"; then
-        wrong "include/meter.h declares other functions (<) than crates/meter exports (>)"
+        wrong "include/meter.h declares other functions (<) than crates/meter_c exports (>)"
         cat "$scratch/differences" >&2
         return
     fi

@@ -29,8 +29,12 @@ pub fn crates(root: &Path, wanted: &[String]) -> Result<Vec<Crate>, String> {
         let below = used.get(&name).map_or(&[][..], |names| names);
         let below = below.iter().map(|n| size(&root.join("crates").join(n)));
         let (krate, faults) = crate_at(dir, name, below.sum())?;
+        wrong.extend(
+            faults
+                .into_iter()
+                .filter(|_| is_wanted(&krate.name, wanted)),
+        );
         found.push(krate);
-        wrong.extend(faults);
     }
     if !wrong.is_empty() {
         return Err(wrong.join("\nedits: "));
@@ -57,6 +61,12 @@ pub fn crates(root: &Path, wanted: &[String]) -> Result<Vec<Crate>, String> {
     found.retain(|c| !c.edits.is_empty());
     found.sort_by_key(|c| std::cmp::Reverse(c.weight));
     Ok(found)
+}
+
+/// Is the crate, or an edit of it, wanted?
+fn is_wanted(krate: &str, wanted: &[String]) -> bool {
+    let of = |word: &String| word.split('/').next() == Some(krate);
+    wanted.is_empty() || wanted.iter().any(of)
 }
 
 /// The crates of the repository that each of its crates uses, from crates.txt.
