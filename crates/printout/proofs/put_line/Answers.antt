@@ -1,8 +1,7 @@
 -- `printout::put_line` meets its contract. Assumes nothing.
 use Rattle.std.proofs.Common.{arith}
 use Rattle.text.proofs.Decimals.{u64_digits}
-use Rattle.text.proofs.Placing.{Put, put_next}
-use Rattle.printout.specs.Printout.{ended}
+use Rattle.text.proofs.Placing.{put_next}
 use Rattle.printout.proofs.put_line.Goals as goal
 
 pub put_decimal-feed-requires : goal.put_decimal-feed-requires

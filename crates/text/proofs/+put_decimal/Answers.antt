@@ -1,6 +1,6 @@
 -- `text::put_decimal` meets its contract. Assumes nothing.
-use Rattle.std.proofs.Common.{◌≡◌, ◌+◌, ◌/◌, length, ap, sym, ◌∙◌, arith, length-set}
-use Rattle.text.specs.Text.{decimal, placed}
+use Rattle.std.proofs.Common.{◌/◌, length, ap, arith}
+use Rattle.text.specs.Text.{decimal}
 use Rattle.text.proofs.Decimals.{length_small, length_more, put_digit, put_last}
 use Rattle.text.proofs.Placing.{length-placed}
 use Rattle.text.proofs.+put_decimal.Goals as goal
@@ -36,4 +36,4 @@ returns-clause-end t c = omega (arith, length_more c.args.n c.if-n-lt10.false, c
 pub returns-clause-buffer : goal.returns-clause-buffer
 returns-clause-buffer t c =
     put_last c.args.buf.now c.args.at c.args.n c.put_decimal-last.new.buf c.put_decimal-last.result c.digit_byte-2.result
-        c.if-n-lt10.false c.requires c.put_decimal-last.ensures.buffer c.put_decimal-last.ensures.end c.digit_byte-2.ensures
+    c.if-n-lt10.false c.requires c.put_decimal-last.ensures.buffer c.put_decimal-last.ensures.end c.digit_byte-2.ensures
