@@ -1,13 +1,13 @@
 -- Calls on the account that numbers stand for. Assumes nothing.
 use Prim.Native.Nat.{ℕ, ◌+◌, ◌≤◌}
 use mathlib.Core.Path.{◌≡◌, refl, sym, ◌∙◌, ap}
-use mathlib.Core.Bool.{Bool, true, false, not, cond, ◌&&◌, false≢true}
+use mathlib.Core.Bool.{Bool, true, false, cond, ◌&&◌, false≢true}
 use mathlib.Core.List.{List, ◌++◌}
 use native.Mathlib.Omega.{arith}
 use lib.Dec.{leb}
 use lib.ListN.{length, take, drop, length-drop, length-append}
 use lib.Seq.{take_at, length-take-le}
-use borrow.Author.Tests.{leb-true, not-true, not-false}
+use borrow.Author.Tests.{leb-true}
 use Rattle.tariff.proofs.Tests.{and_right}
 use Rattle.tariff.specs.declared.Kind.{Kind}
 use Rattle.tariff.specs.declared.Verdict.{Verdict}
@@ -179,13 +179,13 @@ unfolding sound_numbers
 sound_by xs b h e = rw h e
 
 -- a known kind with room for the answer, or not
-pub has_room : (kind size : ℕ) (ys : List ℕ) → not (leb kind 3 && leb size (length ys)) ≡ false → kind_with_room kind size ys ≡ true
+pub has_room : (kind size : ℕ) (ys : List ℕ) → (leb kind 3 && leb size (length ys)) ≡ true → kind_with_room kind size ys ≡ true
 unfolding kind_with_room
-has_room kind size ys h = not-false (leb kind 3 && leb size (length ys)) h
+has_room kind size ys h = h
 
-pub no_room : (kind size : ℕ) (ys : List ℕ) → not (leb kind 3 && leb size (length ys)) ≡ true → kind_with_room kind size ys ≡ false
+pub no_room : (kind size : ℕ) (ys : List ℕ) → (leb kind 3 && leb size (length ys)) ≡ false → kind_with_room kind size ys ≡ false
 unfolding kind_with_room
-no_room kind size ys h = not-true (leb kind 3 && leb size (length ys)) h
+no_room kind size ys h = h
 
 pub room_is : (kind size : ℕ) (ys : List ℕ) → kind_with_room kind size ys ≡ true → size ≤ length ys
 unfolding kind_with_room

@@ -1,14 +1,14 @@
 -- The calls of a file on the account that numbers stand for, and what files answer. Assumes nothing.
 use Prim.Native.Nat.{ℕ, ◌≤◌}
 use mathlib.Core.Path.{◌≡◌, refl, sym, ◌∙◌, ap}
-use mathlib.Core.Bool.{true, false, not, ◌&&◌}
+use mathlib.Core.Bool.{true, false, ◌&&◌}
 use mathlib.Core.List.{List, [], ◌∷◌, ◌++◌}
 use lib.ListN.{length, drop}
 use lib.Dec.{leb, eqb}
-use borrow.Author.Tests.{leb-true, eqb-true, not-true, not-false}
+use borrow.Author.Tests.{leb-true, eqb-true}
 use Rattle.tariff.specs.declared.Plan.{Plan}
 use Rattle.tariff.specs.declared.PlanAnswer.TheVariants as Planned
-use Rattle.tariff.specs.declared.Verdict.TheVariants.{Accepted, Refused}
+use Rattle.tariff.specs.declared.Verdict.TheVariants.{Accepted}
 use Rattle.tariff.specs.Tests.{is_accepted}
 use Rattle.tariff.specs.declared.Allowance.{Allowance}
 use Rattle.tariff.specs.declared.Allowance.TheVariants.{NoLimit}
@@ -145,13 +145,13 @@ limit_fits f x e = go (read_of f) refl e
     go (Told.Refused n) d g = cc
 
 -- writing: seven numbers of a plan, and room for the answer
-pub room_there : (ts ys : List ℕ) → not (eqb (length ts) 7 && leb 1 (length ys)) ≡ false → plan_with_room ts ys ≡ true
+pub room_there : (ts ys : List ℕ) → (eqb (length ts) 7 && leb 1 (length ys)) ≡ true → plan_with_room ts ys ≡ true
 unfolding plan_with_room
-room_there ts ys h = not-false (eqb (length ts) 7 && leb 1 (length ys)) h
+room_there ts ys h = h
 
-pub room_missing : (ts ys : List ℕ) → not (eqb (length ts) 7 && leb 1 (length ys)) ≡ true → plan_with_room ts ys ≡ false
+pub room_missing : (ts ys : List ℕ) → (eqb (length ts) 7 && leb 1 (length ys)) ≡ false → plan_with_room ts ys ≡ false
 unfolding plan_with_room
-room_missing ts ys h = not-true (eqb (length ts) 7 && leb 1 (length ys)) h
+room_missing ts ys h = h
 
 pub plan_seven : (ts ys : List ℕ) → plan_with_room ts ys ≡ true → length ts ≡ 7
 unfolding plan_with_room

@@ -1,5 +1,7 @@
 // The meter as a library for the box. An account lies in the caller's memory as numbers, and nothing is kept between two
 // calls. Crate `meter_c` has these functions for programs in C, whose header is include/meter.h.
+#![tactic(auto)]
+
 pub mod boxes;
 pub mod calls;
 pub mod caps;

@@ -53,12 +53,7 @@ pub fn meter_text_read(
 }
 
 // Writes the calls as text into the buffer: 14, 15, 21, 16.
-pub fn meter_text_write(
-    codes: &[u32],
-    numbers: &[u32],
-    text: &mut [u8],
-    answer: &mut [u64],
-) -> u64
+pub fn meter_text_write(codes: &[u32], numbers: &[u32], text: &mut [u8], answer: &mut [u64]) -> u64
     ensures code { result ≡ text_write_code codes.now numbers.now text.old
         answer.old }
     ensures written { text.new ≡ text_write_buffer codes.now numbers.now

@@ -5,13 +5,13 @@ use borrow.Author.Rules.{rules}
 use Rattle.meter.proofs.open_on.Statement.{statement}
 use Rattle.meter.proofs.open_on.Tie as tie
 
-put-state-requires : tie.Need-put-state-requires
-put-state-requires c κs = let d = c.before.before.before.before.before.before.before.before in
-    (blank-length d.args.account.now _ d.requires.0 c.before.before.before.before.before.blank.ensures, writable_new d.args.p c.before.before.open-with.result d.requires.1 c.before.before.open-with.ensures)
+put-state-requires : tie.Need-put_state-requires
+put-state-requires c κs =
+    (blank-length c.args.account.now _ c.requires.0 c.blank.ensures, writable_new c.args.p c.open_with-opened.result c.requires.1 c.open_with-opened.ensures)
 
 returns : tie.Need-returns
-returns c = let d = c.before.before.before.before.before.before.before.before.before.before.before in
-    c.before.before.put-state.ensures ∙ opened_laid d.args.account.now _ d.args.p c.before.before.before.before.before.open-with.result d.requires.1 c.before.before.before.before.before.open-with.ensures c.before.before.before.before.before.before.before.before.blank.ensures
+returns c =
+    c.put_state.ensures ∙ opened_laid c.args.account.now _ c.args.p c.open_with-opened.result c.requires.1 c.open_with-opened.ensures c.blank.ensures
 
 pub open_on_spec : {M : Type 1} → statement M
 open_on_spec =

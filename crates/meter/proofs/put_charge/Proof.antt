@@ -4,7 +4,7 @@ use Rattle.meter.proofs.put_charge.Statement.{statement}
 use Rattle.meter.proofs.put_charge.Tie as tie
 
 returns : tie.Need-returns
-returns c = simp (c.before.before.put_first.ensures, c.before.before.before.before.before.one_if.ensures)
+returns c = simp (c.put_first.ensures, c.one_if-notice.ensures)
 
 pub put_charge_spec : {M : Type 1} → statement M
 put_charge_spec =

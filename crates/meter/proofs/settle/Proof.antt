@@ -5,14 +5,14 @@ use borrow.Author.Rules.{rules}
 use Rattle.meter.proofs.settle.Statement.{statement}
 use Rattle.meter.proofs.settle.Tie as tie
 
-put-state-requires : tie.Need-put-state-requires
-put-state-requires c κs = let d = c.before.before.before.before.before in (d.requires.0, d.requires.1 (sym c.before.before.taken.ensures ∙ c.before.if1.true))
+put-state-requires : tie.Need-put_state-requires
+put-state-requires c κs = (c.requires.0, c.requires.1 (sym c.taken.ensures ∙ c.if-taken.true))
 
-returns : tie.Need-returns
-returns c = let d = c.before.before.before.before.before.before.before.before.args in c.before.before.put-state.ensures ∙ settled_yes d.done d.account.now (sym c.before.before.before.before.before.taken.ensures ∙ c.before.before.before.before.if1.true)
+returns : tie.Need-returns-then-taken
+returns c = let d = c.args in c.put_state.ensures ∙ settled_yes d.done d.account.now (sym c.taken.ensures ∙ c.if-taken.true)
 
-returns-2 : tie.Need-returns-2
-returns-2 c = let d = c.before.before.before.before.args in settled_no d.done d.account.now (sym c.before.taken.ensures ∙ c.if1.false)
+returns-2 : tie.Need-returns-else-taken
+returns-2 c = let d = c.args in settled_no d.done d.account.now (sym c.taken.ensures ∙ c.if-taken.false)
 
 pub settle_spec : {M : Type 1} → statement M
 settle_spec =

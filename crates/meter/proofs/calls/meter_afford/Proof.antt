@@ -13,21 +13,21 @@ use borrow.Author.Rules.{rules}
 use Rattle.meter.proofs.calls.meter_afford.Statement.{statement}
 use Rattle.meter.proofs.calls.meter_afford.Tie as tie
 
-returns : tie.Need-returns
-returns c = let a = c.before.before.before.args in
-    let h = no_room a.kind 1 a.answer.now c.if1.true in
+returns : tie.Need-returns-then-not-kind-answer
+returns c = let a = c.args in
+    let h = no_room a.kind 1 a.answer.now c.if-not-kind-answer.true in
     (rw h refl, rw h refl)
 
-put-answer-requires : tie.Need-put-answer-requires
-put-answer-requires c κs = let a = c.before.before.before.before.before.before.args in
-    let e : answer_size c.before.afford-on.result ≡ answer_size (call_answer a.account.now (Afford c.before.before.kind-of.result)) = ap answer_size c.before.afford-on.ensures in
-    omega (arith, e, afford_one a.account.now c.before.before.kind-of.result, room_is a.kind 1 a.answer.now (has_room a.kind 1 a.answer.now c.before.before.before.if1.false))
+put-answer-requires : tie.Need-put_answer-requires
+put-answer-requires c κs = let a = c.args in
+    let e : answer_size c.afford_on-x.result ≡ answer_size (call_answer a.account.now (Afford c.kind_of.result)) = ap answer_size c.afford_on-x.ensures in
+    omega (arith, e, afford_one a.account.now c.kind_of.result, room_is a.kind 1 a.answer.now (has_room a.kind 1 a.answer.now c.if-not-kind-answer.false))
 
-returns-2 : tie.Need-returns-2
-returns-2 c = let a = c.before.before.before.before.before.before.before.before.before.before.args in
-    let h = has_room a.kind 1 a.answer.now c.before.before.before.before.before.before.before.if1.false in
-    let x = c.before.before.before.before.before.afford-on.ensures ∙ ap (λ (j : Kind). call_answer a.account.now (Afford j)) c.before.before.before.before.before.before.kind-of.ensures in
-    (rw h (c.answer_code.ensures ∙ ap answer_code x), rw h (c.before.before.before.put-answer.ensures ∙ ap (λ (y : Answer). answer_laid y a.answer.now) x))
+returns-2 : tie.Need-returns
+returns-2 c = let a = c.args in
+    let h = has_room a.kind 1 a.answer.now c.if-not-kind-answer.false in
+    let x = c.afford_on-x.ensures ∙ ap (λ (j : Kind). call_answer a.account.now (Afford j)) c.kind_of.ensures in
+    (rw h (c.answer_code.ensures ∙ ap answer_code x), rw h (c.put_answer.ensures ∙ ap (λ (y : Answer). answer_laid y a.answer.now) x))
 
 pub meter_afford_spec : {M : Type 1} → statement M
 meter_afford_spec =

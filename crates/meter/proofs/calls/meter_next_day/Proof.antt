@@ -6,7 +6,7 @@ use Rattle.meter.proofs.calls.meter_next_day.Statement.{statement}
 use Rattle.meter.proofs.calls.meter_next_day.Tie as tie
 
 returns : tie.Need-returns
-returns c = let k = c.before.before.before.call-on.ensures in (c.answer_code.ensures ∙ ap answer_code k.0, k.1)
+returns c = let k = c.call_on.ensures in (c.answer_code.ensures ∙ ap answer_code k.0, k.1)
 
 pub meter_next_day_spec : {M : Type 1} → statement M
 meter_next_day_spec =

@@ -9,14 +9,14 @@ use borrow.Author.Rules.{rules}
 use Rattle.meter.proofs.calls.meter_register.Statement.{statement}
 use Rattle.meter.proofs.calls.meter_register.Tie as tie
 
-returns : tie.Need-returns
-returns c = let h = lt-leb c.before.before.args.place 2 c.if1.true in (rw h refl, rw h refl)
+returns : tie.Need-returns-then-place-gt2
+returns c = let h = lt-leb c.args.place 2 c.if-place-gt2.true in (rw h refl, rw h refl)
 
-returns-2 : tie.Need-returns-2
-returns-2 c = let h = le-leb c.before.before.before.before.before.before.before.before.args.place 2 c.before.before.before.before.before.before.if1.false in
-    let xs = c.before.before.before.before.before.before.before.before.args.account.now in
-    let k = c.before.before.before.call-on.ensures in
-    let e = c.before.before.before.before.place_of.ensures in
+returns-2 : tie.Need-returns
+returns-2 c = let h = le-leb c.args.place 2 c.if-place-gt2.false in
+    let xs = c.args.account.now in
+    let k = c.call_on.ensures in
+    let e = c.place_of.ensures in
     (rw h (c.answer_code.ensures ∙ ap answer_code (k.0 ∙ ap (λ (p : Place). call_answer xs (Register p)) e)), rw h (k.1 ∙ ap (λ (p : Place). call_numbers xs (Register p)) e))
 
 pub meter_register_spec : {M : Type 1} → statement M

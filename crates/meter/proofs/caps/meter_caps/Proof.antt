@@ -9,13 +9,13 @@ use borrow.Author.Rules.{rules}
 use Rattle.meter.proofs.caps.meter_caps.Statement.{statement}
 use Rattle.meter.proofs.caps.meter_caps.Tie as tie
 
-returns : tie.Need-returns
-returns c = let h = lt-leb 5 (length c.before.before.args.answer.now) c.if1.true in (rw h refl, rw h refl)
+returns : tie.Need-returns-then-answer-lt5
+returns c = let h = lt-leb 5 (length c.args.answer.now) c.if-answer-lt5.true in (rw h refl, rw h refl)
 
-returns-2 : tie.Need-returns-2
-returns-2 c = let a = c.before.before.before.before.before.before.before.before.before.args in
-    let h = le-leb 5 (length a.answer.now) c.before.before.before.before.before.before.before.if1.false in
-    (rw h refl, rw h (c.before.before.put_first.ensures ∙ ap (λ (x : Found). laid (caps_numbers x) a.answer.now) c.before.before.before.before.before.before.find-caps.ensures))
+returns-2 : tie.Need-returns
+returns-2 c = let a = c.args in
+    let h = le-leb 5 (length a.answer.now) c.if-answer-lt5.false in
+    (rw h refl, rw h (c.put_first.ensures ∙ ap (λ (x : Found). laid (caps_numbers x) a.answer.now) c.find_caps-found.ensures))
 
 pub meter_caps_spec : {M : Type 1} → statement M
 meter_caps_spec =

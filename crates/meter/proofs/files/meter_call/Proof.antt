@@ -9,19 +9,19 @@ use borrow.Author.Rules.{rules}
 use Rattle.meter.proofs.files.meter_call.Statement.{statement}
 use Rattle.meter.proofs.files.meter_call.Tie as tie
 
-returns : tie.Need-returns
-returns c = let h = lt-leb 3 (length c.before.before.before.args.answer.now) c.if1.true in (rw h refl, rw h refl)
+returns : tie.Need-returns-then-answer-lt3
+returns c = let h = lt-leb 3 (length c.args.answer.now) c.if-answer-lt3.true in (rw h refl, rw h refl)
 
-returns-2 : tie.Need-returns-2
-returns-2 c = let a = c.before.before.before.before.before.before.before.before.before.before.before.before.before.args in
-    let h = le-leb 3 (length a.answer.now) c.before.before.before.before.before.before.before.before.before.before.if1.false in
-    let e = sym c.before.before.before.before.before.before.before.step.given.1 ∙ c.before.before.before.before.before.before.before.before.before.decode.ensures in
-    (rw h (ap step_code e), rw h (call_laid a.section.now a.position _ _ c.before.before.before.before.before.after.result _ a.answer.now _ e c.before.before.before.before.before.after.ensures c.before.before.put_first.ensures))
+returns-2 : tie.Need-returns-in-Call
+returns-2 c = let a = c.args in
+    let h = le-leb 3 (length a.answer.now) c.if-answer-lt3.false in
+    let e = sym c.in-Call.is ∙ c.decode-step.ensures in
+    (rw h (ap step_code e), rw h (call_laid a.section.now a.position _ _ c.after-after.result _ a.answer.now _ e c.after-after.ensures c.put_first.ensures))
 
-returns-3 : tie.Need-returns-3
-returns-3 c = let a = c.before.before.before.before.before.before.args in
-    let h = le-leb 3 (length a.answer.now) c.before.before.before.if1.false in
-    let e = sym c.enum_told.given.1 ∙ c.before.before.decode.ensures in
+returns-3 : tie.Need-returns-in-End
+returns-3 c = let a = c.args in
+    let h = le-leb 3 (length a.answer.now) c.if-answer-lt3.false in
+    let e = sym c.in-End.is ∙ c.decode-step.ensures in
     (rw h (ap step_code e), rw h (ap (λ (x : Step). step_laid a.section.now a.position x a.answer.now) e))
 
 pub meter_call_spec : {M : Type 1} → statement M

@@ -11,23 +11,23 @@ use borrow.Author.Rules.{rules}
 use Rattle.meter.proofs.files.meter_find.Statement.{statement}
 use Rattle.meter.proofs.files.meter_find.Tie as tie
 
-returns : tie.Need-returns
-returns c = let h = lt-leb 2 (length c.before.before.before.args.answer.now) c.if1.true in (rw h refl, rw h refl)
+returns : tie.Need-returns-then-answer-lt2
+returns c = let h = lt-leb 2 (length c.args.answer.now) c.if-answer-lt2.true in (rw h refl, rw h refl)
 
-part-extent-requires : tie.Need-part-extent-requires
-part-extent-requires c κs = found_both c.before.before.before.before.before.before.args.file.now c.before.before.before.before.before.before.args.kind (ap is_accepted (sym c.before.before.find_verdict.ensures ∙ c.enum_told.given.1))
+part-extent-requires : tie.Need-part_extent-e-requires
+part-extent-requires c κs = found_both c.args.file.now c.args.kind (ap is_accepted (sym c.find_verdict-v.ensures ∙ c.in-Accepted.is))
 
-returns-2 : tie.Need-returns-2
-returns-2 c = let a = c.before.before.before.before.before.before.before.before.before.before.before.before.args in
-    let h = le-leb 2 (length a.answer.now) c.before.before.before.before.before.before.before.before.before.if1.false in
-    let e = sym c.before.before.before.before.before.before.before.before.find_verdict.ensures ∙ c.before.before.before.before.before.before.enum_told.given.1 in
-    (rw h (ap verdict_code (sym e)), rw h (found_laid a.file.now a.kind a.answer.now _ c.before.before.before.before.before.part_extent.result e c.before.before.before.before.before.part_extent.ensures c.before.before.put_first.ensures))
+returns-2 : tie.Need-returns-in-Accepted
+returns-2 c = let a = c.args in
+    let h = le-leb 2 (length a.answer.now) c.if-answer-lt2.false in
+    let e = sym c.find_verdict-v.ensures ∙ c.in-Accepted.is in
+    (rw h (ap verdict_code (sym e)), rw h (found_laid a.file.now a.kind a.answer.now _ c.part_extent-e.result e c.part_extent-e.ensures c.put_first.ensures))
 
-returns-3 : tie.Need-returns-3
+returns-3 : tie.Need-returns-in-Refused
 unfolding find_laid
-returns-3 c = let a = c.before.before.before.before.before.before.before.args in
-    let h = le-leb 2 (length a.answer.now) c.before.before.before.before.if1.false in
-    let e = sym c.before.before.before.find_verdict.ensures ∙ c.before.v.given.1 in
+returns-3 c = let a = c.args in
+    let h = le-leb 2 (length a.answer.now) c.if-answer-lt2.false in
+    let e = sym c.find_verdict-v.ensures ∙ c.in-Refused.is in
     (rw h (ap verdict_code (sym e)), rw (h, e) refl)
 
 pub meter_find_spec : {M : Type 1} → statement M

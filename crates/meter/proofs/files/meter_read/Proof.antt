@@ -8,19 +8,19 @@ use borrow.Author.Rules.{rules}
 use Rattle.meter.proofs.files.meter_read.Statement.{statement}
 use Rattle.meter.proofs.files.meter_read.Tie as tie
 
-returns : tie.Need-returns
-returns c = let h = lt-leb 8 (length c.before.before.before.args.answer.now) c.if1.true in (rw h refl, rw h refl)
+returns : tie.Need-returns-then-answer-lt8
+returns c = let h = lt-leb 8 (length c.args.answer.now) c.if-answer-lt8.true in (rw h refl, rw h refl)
 
-returns-2 : tie.Need-returns-2
-returns-2 c = let a = c.before.before.before.before.before.before.before.before.before.before.before.args in
-    let h = le-leb 8 (length a.answer.now) c.before.before.before.before.before.before.before.before.if1.false in
-    let e = sym c.before.before.before.before.before.read2.given.1 ∙ c.before.before.before.before.before.before.before.read.ensures in
-    (rw h (ap read_code e), rw h (c.before.before.put-trip.ensures ∙ ap (λ (x : Read). read_laid x a.answer.now) e))
+returns-2 : tie.Need-returns-in-Trip
+returns-2 c = let a = c.args in
+    let h = le-leb 8 (length a.answer.now) c.if-answer-lt8.false in
+    let e = sym c.in-Trip.is ∙ c.read-read.ensures in
+    (rw h (ap read_code e), rw h (c.put_trip.ensures ∙ ap (λ (x : Read). read_laid x a.answer.now) e))
 
-returns-3 : tie.Need-returns-3
-returns-3 c = let a = c.before.before.before.before.before.before.before.args in
-    let h = le-leb 8 (length a.answer.now) c.before.before.before.before.if1.false in
-    let e = sym c.before.read3.given.1 ∙ c.before.before.before.read.ensures in
+returns-3 : tie.Need-returns-in-Refused
+returns-3 c = let a = c.args in
+    let h = le-leb 8 (length a.answer.now) c.if-answer-lt8.false in
+    let e = sym c.in-Refused.is ∙ c.read-read.ensures in
     (rw h (ap read_code e), rw h (ap (λ (x : Read). read_laid x a.answer.now) e))
 
 pub meter_read_spec : {M : Type 1} → statement M

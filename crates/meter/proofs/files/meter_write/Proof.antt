@@ -7,28 +7,28 @@ use borrow.Author.Rules.{rules}
 use Rattle.meter.proofs.files.meter_write.Statement.{statement}
 use Rattle.meter.proofs.files.meter_write.Tie as tie
 
-returns : tie.Need-returns
-returns c = let a = c.before.before.before.before.before.before.args in
-    write_bad a.plan.now a.codes.now a.numbers.now a.buffer.now a.answer.now (room_missing a.plan.now a.answer.now c.if1.true)
+returns : tie.Need-returns-then-not-plan-answer
+returns c = let a = c.args in
+    write_bad a.plan.now a.codes.now a.numbers.now a.buffer.now a.answer.now (room_missing a.plan.now a.answer.now c.if-not-plan-answer.true)
 
-terms-of-requires : tie.Need-terms-of-requires
-terms-of-requires c κs = let a = c.before.before.before.before.before.before.args in omega (arith, plan_seven a.plan.now a.answer.now (room_there a.plan.now a.answer.now c.if1.false))
+terms-of-requires : tie.Need-terms_of-requires
+terms-of-requires c κs = let a = c.args in omega (arith, plan_seven a.plan.now a.answer.now (room_there a.plan.now a.answer.now c.if-not-plan-answer.false))
 
-put-written-requires : tie.Need-put-written-requires
-put-written-requires c κs = let a = c.before.before.before.before.before.before.before.before.before.before.before.before.before.before.before.before.args in room_one a.plan.now a.answer.now (room_there a.plan.now a.answer.now c.before.before.before.before.before.before.before.before.before.before.if1.false)
+put-written-requires : tie.Need-put_written-requires
+put-written-requires c κs = let a = c.args in room_one a.plan.now a.answer.now (room_there a.plan.now a.answer.now c.if-not-plan-answer.false)
 
-returns-2 : tie.Need-returns-2
-returns-2 c = let a = c.before.before.before.before.before.before.before.before.before.before.before.before.before.before.before.before.before.before.before.args in
-    let h = room_there a.plan.now a.answer.now c.before.before.before.before.before.before.before.before.before.before.before.before.before.if1.false in
-    let e = sym (c.before.before.before.before.before.before.before.before.before.before.before.plan-from.ensures ∙ ap plan_of c.before.before.before.before.before.before.before.before.before.before.before.before.terms-of.ensures) ∙ c.before.before.before.before.before.before.before.before.before.granted.given.1 in
-    let w = c.before.before.before.before.before.before.write in
-    let g = write_granted a.plan.now a.codes.now a.numbers.now a.buffer.now a.answer.now h _ w.result _ _ e w.ensures.0 w.ensures.1 c.before.before.Put-written.ensures.1 in
-    (c.before.before.Put-written.ensures.0 ∙ g.0, g.1)
+returns-2 : tie.Need-returns-in-Granted
+returns-2 c = let a = c.args in
+    let h = room_there a.plan.now a.answer.now c.if-not-plan-answer.false in
+    let e = sym (c.plan_from-granted.ensures ∙ ap plan_of c.terms_of.ensures) ∙ c.in-Granted.is in
+    let w = c.write-w in
+    let g = write_granted a.plan.now a.codes.now a.numbers.now a.buffer.now a.answer.now h _ w.result _ _ e w.ensures.0 w.ensures.1 c.put_written.ensures.1 in
+    (c.put_written.ensures.0 ∙ g.0, g.1)
 
-returns-3 : tie.Need-returns-3
-returns-3 c = let a = c.before.before.before.before.before.before.before.before.before.before.before.args in
-    let h = room_there a.plan.now a.answer.now c.before.before.before.before.before.if1.false in
-    let e = sym (c.before.before.before.plan-from.ensures ∙ ap plan_of c.before.before.before.before.terms-of.ensures) ∙ c.before.granted2.given.1 in
+returns-3 : tie.Need-returns-in-Refused
+returns-3 c = let a = c.args in
+    let h = room_there a.plan.now a.answer.now c.if-not-plan-answer.false in
+    let e = sym (c.plan_from-granted.ensures ∙ ap plan_of c.terms_of.ensures) ∙ c.in-Refused.is in
     write_declined a.plan.now a.codes.now a.numbers.now a.buffer.now a.answer.now h _ e
 
 pub meter_write_spec : {M : Type 1} → statement M

@@ -4,7 +4,7 @@ use Rattle.meter.proofs.files.put_figures.Statement.{statement}
 use Rattle.meter.proofs.files.put_figures.Tie as tie
 
 returns : tie.Need-returns
-returns c = simp (c.before.before.put_first.ensures, c.before.before.before.before.before.number-of-allowance.ensures)
+returns c = simp (c.put_first.ensures, c.number_of_allowance-limit.ensures)
 
 pub put_figures_spec : {M : Type 1} → statement M
 put_figures_spec =

@@ -4,7 +4,7 @@ use Rattle.meter.proofs.files.put_trip.Statement.{statement}
 use Rattle.meter.proofs.files.put_trip.Tie as tie
 
 returns : tie.Need-returns
-returns c = simp (c.before.before.put_first.ensures, c.before.before.before.before.before.number-of-form.ensures)
+returns c = simp (c.put_first.ensures, c.number_of_form-form.ensures)
 
 pub put_trip_spec : {M : Type 1} → statement M
 put_trip_spec =

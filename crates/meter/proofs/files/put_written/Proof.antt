@@ -4,8 +4,8 @@ use borrow.Author.Rules.{rules}
 use Rattle.meter.proofs.files.put_written.Statement.{statement}
 use Rattle.meter.proofs.files.put_written.Tie as tie
 
-returns : tie.Need-returns
-returns c = let e = c.before.before.before.before.before.w.given.1 in (rw e refl, rw e c.before.before.put-number.ensures)
+returns : tie.Need-returns-in-Bytes
+returns c = let e = c.in-Bytes.is in (rw e refl, rw e c.put_number.ensures)
 
 pub put_written_spec : {M : Type 1} → statement M
 put_written_spec =

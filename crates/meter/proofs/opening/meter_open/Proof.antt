@@ -6,24 +6,24 @@ use borrow.Author.Rules.{rules}
 use Rattle.meter.proofs.opening.meter_open.Statement.{statement}
 use Rattle.meter.proofs.opening.meter_open.Tie as tie
 
-returns : tie.Need-returns
-returns c = let a = c.before.before.before.args in open_bad a.account.now a.plan.now c.if1.true
+returns : tie.Need-returns-then-plan-ne7
+returns c = let a = c.args in open_bad a.account.now a.plan.now c.if-plan-ne7.true
 
-returns-2 : tie.Need-returns-2
-returns-2 c = let a = c.before.before.before.before.args in open_0 a.account.now a.plan.now c.before.if1.false c.if2.true
+returns-2 : tie.Need-returns-then-account-ne1649
+returns-2 c = let a = c.args in open_0 a.account.now a.plan.now c.if-plan-ne7.false c.if-account-ne1649.true
 
-open-on-requires : tie.Need-open-on-requires
-open-on-requires c κs = let e = sym c.before.before.before.before.plan-from.ensures ∙ c.before.before.granted.given.1 in (c.before.before.before.before.before.before.if2.false, granted_opens _ _ e)
+open-on-requires : tie.Need-open_on-requires
+open-on-requires c κs = let e = sym c.plan_from-granted.ensures ∙ c.in-Granted.is in (c.if-account-ne1649.false, granted_opens _ _ e)
 
-returns-3 : tie.Need-returns-3
-returns-3 c = let a = c.before.before.before.before.before.before.before.before.before.before.before.before.before.args in
-    let e = sym (c.before.before.before.before.before.before.before.plan-from.ensures ∙ ap plan_of c.before.before.before.before.before.before.before.before.terms-of.ensures) ∙ c.before.before.before.before.before.granted.given.1 in
-    open_done a.account.now a.plan.now _ _ c.before.before.before.before.before.before.before.before.before.before.if1.false c.before.before.before.before.before.before.before.before.before.if2.false e c.before.before.open-on.ensures
+returns-3 : tie.Need-returns-in-Granted
+returns-3 c = let a = c.args in
+    let e = sym (c.plan_from-granted.ensures ∙ ap plan_of c.terms_of.ensures) ∙ c.in-Granted.is in
+    open_done a.account.now a.plan.now _ _ c.if-plan-ne7.false c.if-account-ne1649.false e c.open_on.ensures
 
-returns-4 : tie.Need-returns-4
-returns-4 c = let a = c.before.before.before.before.before.before.before.before.before.args in
-    let e = sym (c.before.before.before.plan-from.ensures ∙ ap plan_of c.before.before.before.before.terms-of.ensures) ∙ c.before.granted2.given.1 in
-    open_declined a.account.now a.plan.now _ c.before.before.before.before.before.before.if1.false c.before.before.before.before.before.if2.false e
+returns-4 : tie.Need-returns-in-Refused
+returns-4 c = let a = c.args in
+    let e = sym (c.plan_from-granted.ensures ∙ ap plan_of c.terms_of.ensures) ∙ c.in-Refused.is in
+    open_declined a.account.now a.plan.now _ c.if-plan-ne7.false c.if-account-ne1649.false e
 
 pub meter_open_spec : {M : Type 1} → statement M
 meter_open_spec =

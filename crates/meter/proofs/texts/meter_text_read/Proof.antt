@@ -1,6 +1,5 @@
 -- `meter::texts::meter_text_read` meets its contract. Assumes nothing.
-use mathlib.Core.Path.{◌≡◌, refl, sym, ◌∙◌, ap}
-use mathlib.Core.List.{List}
+use mathlib.Core.Path.{refl, ◌∙◌, ap}
 use lib.ListN.{length}
 use borrow.Author.Tests.{lt-leb, le-leb}
 use Rattle.textlines.specs.declared.TextRead.{TextRead}
@@ -11,32 +10,32 @@ use borrow.Author.Rules.{rules}
 use Rattle.meter.proofs.texts.meter_text_read.Statement.{statement}
 use Rattle.meter.proofs.texts.meter_text_read.Tie as tie
 
-returns : tie.Need-returns
+returns : tie.Need-returns-then-answer-lt1
 unfolding text_read_code text_read_laid text_read_list
-returns c = let h = lt-leb 1 (length c.before.before.before.before.before.args.answer.now) c.if1.true in (rw h refl, (rw h refl, (rw h refl, rw h refl)))
+returns c = let h = lt-leb 1 (length c.args.answer.now) c.if-answer-lt1.true in (rw h refl, (rw h refl, (rw h refl, rw h refl)))
 
-read-requires : tie.Need-read-requires
+read-requires : tie.Need-read-read-requires
 read-requires c κs = search rules
 
-put-read-requires : tie.Need-put-read-requires
+put-read-requires : tie.Need-put_read-requires
 put-read-requires c κs = search rules
 
-same_length : tie.Need-same-length
+same_length : tie.Need-shape_of-codes
 same_length c = search rules
 
-same_length_2 : tie.Need-same-length-2
+same_length_2 : tie.Need-shape_of-numbers
 same_length_2 c = search rules
 
-same_length_3 : tie.Need-same-length-3
+same_length_3 : tie.Need-shape_of-answer
 same_length_3 c = search rules
 
-returns-2 : tie.Need-returns-2
+returns-2 : tie.Need-returns
 unfolding text_read_code text_read_laid text_read_list
 returns-2 c =
-    let a = c.before.before.before.before.before.before.before.before.before.before.before.before.before.before.before.before.args in
-    let h = le-leb 1 (length a.answer.now) c.before.before.before.before.before.before.before.before.before.before.before.if1.false in
-    let r = c.before.before.before.before.before.before.before.before.read in
-    let p = c.before.before.put-read in
+    let a = c.args in
+    let h = le-leb 1 (length a.answer.now) c.if-answer-lt1.false in
+    let r = c.read-read in
+    let p = c.put_read in
     let e = r.ensures.0 in (
       rw h (p.ensures.0 ∙ ap text_code e),
       (
