@@ -1,9 +1,6 @@
 -- The text that an export answers fits in the buffer. Assumes nothing.
-use mathlib.Core.Path.{◌≡◌, refl}
-use mathlib.Core.List.{List}
-use Prim.Native.Nat.{ℕ, ◌≤◌}
-use native.Mathlib.Omega.{arith}
-use lib.ListN.{length}
+use Rattle.std.proofs.Common.{◌≡◌, ℕ, ◌≤◌, List, length, replicate, arith, refl, sym}
+use Rattle.std.proofs.lemmas.List.{length-replicate}
 use Rattle.tariff.specs.declared.Verdict.{Verdict}
 use Rattle.tariff.specs.declared.Verdict.TheVariants as Told
 use Rattle.tripfile.specs.declared.Read.{Read}
@@ -34,3 +31,7 @@ fits f buf k h = go (read_of f) h
     go : (x : Read) → export_by x (calls_of f) buf ≡ Out.Bytes k → k ≤ length buf
     go (Got.Trip p n) g = text_fits (codes_of (calls_of f)) (numbers_of (calls_of f)) buf k g
     go (Got.Refused r) g = let z : ◌≡◌ {A = ℕ} 0 1 = cc in absurd (omega arith)
+
+-- The same of a buffer of n zeros.
+pub fits_zeros : (f : List ℕ) (n k : ℕ) → Out.Bytes k ≡ export_of f (replicate n 0) → k ≤ n
+fits_zeros f n k h = omega (arith, fits f (replicate n 0) k (sym h), length-replicate {A = ℕ} n 0)

@@ -1,9 +1,6 @@
 -- The file that an import answers fits in the buffer. Assumes nothing.
-use mathlib.Core.Path.{◌≡◌, refl, ap}
-use mathlib.Core.List.{List}
-use Prim.Native.Nat.{ℕ, ◌≤◌}
-use native.Mathlib.Omega.{arith}
-use lib.ListN.{length}
+use Rattle.std.proofs.Common.{◌≡◌, ℕ, ◌≤◌, List, length, replicate, arith, refl, sym, ap}
+use Rattle.std.proofs.lemmas.List.{length-replicate}
 use Rattle.tariff.specs.declared.Plan.{Plan}
 use Rattle.tariff.specs.declared.Verdict.{Verdict}
 use Rattle.tariff.specs.declared.Verdict.TheVariants as Told
@@ -37,3 +34,7 @@ fits p t buf k h = go (lines_read t) h
     go (Lines.Calls n) g = file_fits p (codes_of (calls_of t)) (numbers_of (calls_of t)) buf k g
     go (Lines.BadLine m) g = let z : ◌≡◌ {A = ℕ} 0 1 = cc in absurd (omega arith)
     go (Lines.Refused r) g = let z : ◌≡◌ {A = ℕ} 0 1 = cc in absurd (omega arith)
+
+-- The same of a buffer of n zeros.
+pub fits_zeros : (p : Plan) (t : List ℕ) (n k : ℕ) → In.Bytes k ≡ import_of p t (replicate n 0) → k ≤ n
+fits_zeros p t n k h = omega (arith, fits p t (replicate n 0) k (sym h), length-replicate {A = ℕ} n 0)

@@ -29,20 +29,19 @@ loop-at-preserved g c =
     let room = length c.loop-at.buf - from in
     let within = c.loop-at.invariant.1 in
     let part =
-        slice_range-put_mid from room c.in_ok-n.n c.loop-at.buf c.read.new.buf within c.in_ok-n.ensures.bound.0 in
+    slice_range-put_mid from room c.in_ok-n.n c.loop-at.buf c.read.new.buf within c.in_ok-n.ensures.bound.0 in
     let joined =
-        take_split
-        from
-        (from + c.in_ok-n.n)
-        c.loop-at.buf
-        (put_mid from room c.loop-at.buf c.read.new.buf)
-        (omega arith)
-        (take-put_mid_below _ _ _ _ _ (le_refl _) within) in
-    (
-        search rules,
-        search rules,
-        subst
-        (Consumes _ _)
-        (ap (λ l. take from c.loop-at.buf ++ l) (sym part) ∙ joined)
-        (Consumes-trans _ _ _ _ _ c.loop-at.invariant.2 c.in_ok-n.ensures.bytes.0)
+    take_split
+    from
+    (from + c.in_ok-n.n)
+    c.loop-at.buf
+    (put_mid from room c.loop-at.buf c.read.new.buf)
+    (omega arith)
+    (take-put_mid_below _ _ _ _ _ (le_refl _) within) in (
+      search rules,
+      search rules,
+      subst
+          (Consumes _ _)
+          (ap (λ l. take from c.loop-at.buf ++ l) (sym part) ∙ joined)
+          (Consumes-trans _ _ _ _ _ c.loop-at.invariant.2 c.in_ok-n.ensures.bytes.0),
     )
