@@ -22,6 +22,8 @@ calls_head='| function | stack at most | deepest seen | instructions |'
 allowed='memcmp memcpy memmove memset'
 # What is seen on the stack beside a function's own bytes, at most: arguments that do not fit in registers.
 arguments=32
+# What calls itself, and how many times at most: a number of 64 bits has up to 20 digits.
+nested='text::put_decimal=20'
 few=1
 many=3
 
@@ -201,7 +203,7 @@ check_fact() { # NAME MEASURED
 
 bound_stack() {
     objdump -d --no-show-raw-insn "$scratch/measure" |
-        awk -v wanted="$functions" -f tools/stack_bound.awk >"$scratch/bounds" || {
+        awk -v wanted="$functions" -v nested="$nested" -f tools/stack_bound.awk >"$scratch/bounds" || {
         say "FAILED: how deep the stack can go cannot be told from the code"
         exit 1
     }

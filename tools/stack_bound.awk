@@ -3,7 +3,9 @@
 # functions.
 # Prints "NAME BYTES" for each, the return address among the bytes. What is outside of the program, as memmove, counts
 # as its return address alone.
-# It fails where this cannot be told: a function that calls itself, directly or through others, a call through a
+# A function may call itself where -v nested="NAME=TIMES .." tells how many of its calls there can be within each other:
+# it then counts so many times.
+# It fails where this cannot be told: another function that calls itself, directly or through others, a call through a
 # pointer, or a stack pointer that is set in a way not known here.
 
 function fail(why) {
@@ -90,7 +92,7 @@ at == "" || !/^ *[0-9a-f]+:\t/ { next }
     if (gives_back(name, operands) > own[at]) fail("more of the stack is given back than was taken")
     # Below the stack pointer, in the red zone.
     if (name !~ /^lea/ && match(operands, /-0x[0-9a-f]+\(%rsp/)) {
-        n = value(number_in(operands))
+        n = value(number_in(substr(operands, RSTART, RLENGTH)))
         if (n > red[at]) red[at] = n
     }
     if (name ~ /^call/ && operands ~ /^\*/) pointers[at] = 1
@@ -110,15 +112,21 @@ function deepest(f,    list, count, i, d, most) {
     within[f] = 1
     count = split(calls[f], list, " ")
     for (i = 1; i <= count; i++) {
+        if (list[i] == f && f in times) continue
         d = deepest(list[i])
         if (d > most) most = d
     }
     delete within[f]
-    return bound[f] = 8 + own[f] + red[f] + most
+    return bound[f] = (8 + own[f] + red[f]) * (f in times ? times[f] : 1) + most
 }
 
 END {
     if (failed) exit 1
+    count = split(nested, names, " ")
+    for (i = 1; i <= count; i++) {
+        split(names[i], parts, "=")
+        times[parts[1]] = parts[2]
+    }
     count = split(wanted, names, " ")
     for (i = 1; i <= count; i++) print names[i], deepest(names[i])
 }
