@@ -1,7 +1,8 @@
 //! Holds docs/EDITS.md to the tree: each edit is named in a row of its tables, each name there is an edit, each promise
-//! has two or more, in one row or in several, and the counts are right.
+//! has two or more, in one row or in several, and the counts are right. Each edit fits the text that it changes.
 use crate::claims::{cells, Outcome};
 use crate::folder;
+use crate::list;
 use std::collections::{BTreeMap, BTreeSet};
 use std::fs;
 use std::path::Path;
@@ -17,10 +18,39 @@ pub fn check(root: &Path) -> Result<Outcome, String> {
     let text = fs::read_to_string(root.join("docs/EDITS.md"))
         .map_err(|e| format!("docs/EDITS.md: {e}"))?;
     let tree = tree(root)?;
+    let mut wrong = faults(&text, &tree);
+    for dir in folder::entries(&root.join("crates")).map_err(|e| format!("crates/: {e}"))? {
+        wrong.extend(
+            ["edits", "must-fail"]
+                .map(|part| unfit(&dir, part))
+                .concat(),
+        );
+    }
     Ok(Outcome {
         listed: tree.must_fail.len() + tree.edits.len(),
-        wrong: faults(&text, &tree),
+        wrong,
     })
+}
+
+/// What is wrong with the edits in a folder of a crate. In must-fail/, which `rt` reads, no line names what stands before
+/// the text that is meant.
+fn unfit(dir: &Path, part: &str) -> Vec<String> {
+    let mut wrong = Vec::new();
+    for path in folder::entries(&dir.join(part)).unwrap_or_default() {
+        let place = format!(
+            "crates/{}/{part}/{}",
+            folder::name_of(dir),
+            folder::name_of(&path)
+        );
+        match list::edit_at(dir, &path) {
+            Err(e) => wrong.push(format!("{place}: {e}")),
+            Ok(e) if part == "must-fail" && e.replacements.iter().any(|r| r.after.is_some()) => {
+                wrong.push(format!("{place}: has a line `after:`"))
+            }
+            Ok(_) => {}
+        }
+    }
+    wrong
 }
 
 fn tree(root: &Path) -> Result<Tree, String> {
