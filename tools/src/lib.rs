@@ -8,6 +8,7 @@ pub mod edit;
 pub mod folder;
 pub mod functions;
 pub mod list;
+pub mod mend;
 pub mod named;
 pub mod parts;
 pub mod refusals;

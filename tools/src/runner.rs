@@ -5,6 +5,7 @@ use crate::batch::{self, Batch};
 use crate::edit;
 use crate::folder;
 use crate::list::{self, Crate, Edit};
+use crate::mend;
 use crate::parts::Parts;
 use crate::verdict::{judge, Verdict};
 use std::collections::{BTreeMap, BTreeSet};
@@ -31,6 +32,9 @@ pub struct Outcome {
 
 /// How many workers there are while other work goes on.
 const BESIDE: usize = 2;
+
+/// How often the names in a proof are brought to those of an edit.
+const ROUNDS: usize = 4;
 
 /// What is known of the proof of a crate as it is.
 #[derive(Clone, Copy, PartialEq, Eq)]
@@ -334,7 +338,7 @@ impl Work<'_> {
         let verdict = match edit::apply(&dir.join("crates").join(&c.name), &e.replacements) {
             Err(m) => Verdict::Failed(format!("the edit does not fit: {m}")),
             Ok(applied) => {
-                let verdict = self.check(dir, c, &e.name);
+                let verdict = self.check_mended(dir, c, &e.name);
                 match applied.put_back() {
                     Ok(()) => verdict,
                     Err(m) => Verdict::Failed(format!("the file cannot be put back: {m}")),
@@ -372,14 +376,56 @@ impl Work<'_> {
 
     /// Checks the crate in the worker's copy and keeps what the checker said.
     fn check(&self, dir: &Path, c: &Crate, name: &str) -> Verdict {
-        let said = self.said(dir, c);
-        match said.and_then(|(status, text)| {
-            keep(&self.log(c, name), &text)?;
-            Ok((status, text))
-        }) {
+        match self.kept(dir, c, name) {
             Ok((status, text)) => judge(status, &text),
             Err(m) => Verdict::Failed(m),
         }
+    }
+
+    /// The same; where proofs only became unfit, with the names that stand for those that they have.
+    fn check_mended(&self, dir: &Path, c: &Crate, name: &str) -> Verdict {
+        let mut before: BTreeMap<PathBuf, String> = BTreeMap::new();
+        let mut rounds = 0;
+        let found = loop {
+            let (status, text) = match self.kept(dir, c, name) {
+                Ok(said) => said,
+                Err(m) => break Verdict::Failed(m),
+            };
+            let verdict = judge(status, &text);
+            let unfit = matches!(verdict, Verdict::Hollow(_)) && rounds < ROUNDS;
+            let renames = if unfit {
+                mend::renames(&text)
+            } else {
+                Vec::new()
+            };
+            if renames.is_empty() {
+                break verdict;
+            }
+            rounds += 1;
+            for r in renames {
+                let file = dir.join("crates").join(&c.name).join(&r.file);
+                let mended = fs::read_to_string(&file).and_then(|text| {
+                    fs::write(&file, mend::renamed(&text, &r))?;
+                    before.entry(file.clone()).or_insert(text);
+                    Ok(())
+                });
+                if let Err(e) = mended {
+                    self.note(format!("{}: {}: {e}", c.name, r.file));
+                }
+            }
+        };
+        for (file, text) in before {
+            if let Err(e) = fs::write(&file, text) {
+                self.note(format!("{} cannot be put back: {e}", file.display()));
+            }
+        }
+        found
+    }
+
+    fn kept(&self, dir: &Path, c: &Crate, name: &str) -> Result<(Option<i32>, String), String> {
+        let (status, text) = self.said(dir, c)?;
+        keep(&self.log(c, name), &text)?;
+        Ok((status, text))
     }
 
     /// What a check of the crate in the worker's copy says, begun with what its proof as it is left.

@@ -131,7 +131,7 @@ pub fn first_message(output: &str) -> String {
 }
 
 /// The lines of the output, each joined with the indented ones after it.
-fn messages(output: &str) -> Vec<String> {
+pub fn messages(output: &str) -> Vec<String> {
     let mut found: Vec<String> = Vec::new();
     for line in output.lines() {
         match found.last_mut() {
