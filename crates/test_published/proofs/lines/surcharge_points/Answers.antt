@@ -7,7 +7,7 @@ pub times-basis-requires : goal.times-basis-requires
 times-basis-requires c =
     let bounded = after_allowance_bounded c.args.l 0 c.args.n in
     let past : c.past_allowance-kb.result ≤ 1000000000 =
-        omega (arith, c.past_allowance-kb.ensures, bounded, c.requires) in
+    omega (arith, c.past_allowance-kb.ensures, bounded, c.requires) in
     rw (c.only_of.ensures, c.only_of-rate.ensures) (omega (arith, mul-le-mul c.requires.0 past))
 
 pub surcharges_from-requires : goal.surcharges_from-requires
