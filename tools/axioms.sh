@@ -1,11 +1,11 @@
 #!/bin/sh
-# What the proofs rest on, from what the checker said: axioms.sh FOLDER LOG, where FOLDER has NAME.out for each crate that
-# was proved now, and LOG is that of the library for C. A crate without such a file was proved by an earlier run, and is
-# checked here. The verdict on a crate is its line `logic=proved ..`. It has the word `foreign=` where the crate declares C
-# functions, and of a program or a library for C the word `axioms=` where anything that it uses rests on a C function's
-# contract, which is assumed. Fails unless every crate has its verdict, no library has one of the words or uses a crate of
-# C functions, and programs rest on no more than std's input and output do: C's read and write, and two functions that
-# tell of an error; `import` on as many as std's files and arguments do.
+# What the proofs rest on, from what the checker said: axioms.sh FOLDER LOG, where FOLDER has NAME.out for each crate
+# that was proved now, and LOG is that of the library for C. A crate without such a file was proved by an earlier run,
+# and is checked here. The verdict on a crate is its line `logic=proved ..`. It has the word `foreign=` where the crate
+# declares C functions, and of a program or a library for C the word `axioms=` where anything that it uses rests on a C
+# function's contract, which is assumed. Fails unless every crate has its verdict, no library has one of the words or
+# uses a crate of C functions, and programs rest on no more than std's input and output do: C's read and write, and two
+# functions that tell of an error; `import` on as many as std's files and arguments do.
 set -u
 CDPATH='' cd -- "$(dirname -- "$0")/.." || exit 2
 [ "$#" -eq 2 ] || { echo "usage: axioms.sh FOLDER LOG" >&2; exit 2; }

@@ -37,7 +37,8 @@ count_of() { # NAME
 
 # The files that are built from, as find prints them; with -newer FILE those alone that were changed after it.
 sources() { # [-newer FILE]
-    find "$here/crates.txt" "$here/crates" \( -name out -o -name edits -o -name must-fail \) -prune -o -type f "$@" -print
+    find "$here/crates.txt" "$here/crates" \( -name out -o -name edits -o -name must-fail \) -prune -o \
+        -type f "$@" -print
 }
 
 # The toolchain that is found, told at once: rt's file, its size and its time. Nothing where there is none.
@@ -77,8 +78,8 @@ show_build() { # COUNT
     done
 }
 
-# Builds RESULT of the crate by rt's VERB, where it is missing or older than its sources. MADE is the file that rt makes;
-# where RESULT is another one, it is made of it by the command that follows.
+# Builds RESULT of the crate by rt's VERB, where it is missing or older than its sources. MADE is the file that rt
+# makes; where RESULT is another one, it is made of it by the command that follows.
 built() { # CRATE VERB MADE RESULT [COMMAND...]
     ! fresh "$4" || return 0
     command -v rt >/dev/null || { echo "$name: $4 has to be built, and rt is not on the path" >&2; return 1; }

@@ -1,8 +1,8 @@
 //! Tries the wrong programs in crates/*/edits: the checker must refuse each.
-//! `edits [--jobs N] [--logs DIR] [--beside FILE] [--minutes N] [CRATE | CRATE/NAME]...`, from the top of the repository.
-//! With --beside another command is at work on the crates here, after which FILE is there: a copy is proved, and there
-//! are two checks at a time until then. With --minutes none is begun after so many; what is left is told. The last line
-//! is `edits: N tried, 0 not refused` if all is well.
+//! `edits [--jobs N] [--logs DIR] [--beside FILE] [--minutes N] [CRATE | CRATE/NAME]...`, from the top of the
+//! repository. With --beside another command is at work on the crates here, after which FILE is there: a copy is proved,
+//! and there are two checks at a time until then. With --minutes none is begun after so many; what is left is told. The
+//! last line is `edits: N tried, 0 not refused` if all is well.
 use std::path::PathBuf;
 use std::process::ExitCode;
 use std::time::{Duration, Instant};
