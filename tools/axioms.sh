@@ -1,11 +1,11 @@
 #!/bin/sh
-# What the proofs rest on, from what the checker said: axioms.sh FOLDER LOG, where FOLDER has NAME.out for each crate that
-# was proved now, and LOG is that of the library for C. A crate without such a file was proved by an earlier run, and is
-# checked here. The verdict on a crate is its line `logic=proved ..`. It has the word `foreign=` where the crate declares C
-# functions, and of a program or a library for C the word `axioms=` where anything that it uses rests on a C function's
-# contract, which is assumed. Fails unless every crate has its verdict, no library has one of the words or uses a crate of
-# C functions, and programs rest on no more than standard input and output do: C's read and write, and two functions that
-# tell of an error. `import` rests on those, too, by which it takes its arguments and opens a plan's file.
+# What the proofs rest on, from what the checker said: axioms.sh FOLDER LOG, where FOLDER has NAME.out for each crate
+# that was proved now, and LOG is that of the library for C. A crate without such a file was proved by an earlier run,
+# and is checked here. The verdict on a crate is its line `logic=proved ..`. It has the word `foreign=` where the crate
+# declares C functions, and of a program or a library for C the word `axioms=` where anything that it uses rests on a C
+# function's contract, which is assumed. Fails unless every crate has its verdict, no library has one of the words or
+# uses a crate of C functions, and programs rest on no more than std's input and output do: C's read and write, and two
+# functions that tell of an error; `import` on as many as std's files and arguments do.
 set -u
 CDPATH='' cd -- "$(dirname -- "$0")/.." || exit 2
 [ "$#" -eq 2 ] || { echo "usage: axioms.sh FOLDER LOG" >&2; exit 2; }
@@ -14,14 +14,18 @@ wrong=0 libraries=0 programs=0
 scratch=$(mktemp -d) || exit 2
 trap 'rm -rf "$scratch"' EXIT
 
-# What the checker says that a program may rest on, a line for each crate of C functions. It names three at most.
+# What the checker says that a program may rest on, a line for each crate of C functions: three names at most, and how
+# many they are.
 may_rest() { # PROGRAM
     case $1 in
-    import) echo 'TODO' ;;
+    import)
+        echo 'libc: libc::chdir, libc::chmod, libc::chown, ... (26'
+        echo 'os: os::c::__xpg_strerror_r, os::c::fcntl, os::c::getdents64, ... (11'
+        ;;
     *)
-        echo 'libc: libc::read, libc::write'
-        echo 'libc: libc::write'
-        echo 'os: os::c::__xpg_strerror_r, os::c::rattle_errno'
+        echo 'libc: libc::read, libc::write (2'
+        echo 'libc: libc::write (1'
+        echo 'os: os::c::__xpg_strerror_r, os::c::rattle_errno (2'
         ;;
     esac
 }
@@ -47,7 +51,7 @@ for crate in $(sed -n 's/^\([a-z_0-9]*\)\( staticlib\)\{0,1\}:.*/\1/p' crates.tx
     if [ -f "crates/$crate/src/main.rt" ]; then
         programs=$((programs + 1))
         may_rest "$crate" >"$scratch/may"
-        other=$(sed -n 's/^axioms \(.*\) ([0-9]* of the [0-9]* declared)$/\1/p' "$log" | grep -vxF -f "$scratch/may")
+        other=$(sed -n 's/^axioms \(.* ([0-9]*\) of the [0-9]* declared)$/\1/p' "$log" | grep -vxF -f "$scratch/may")
         [ -z "$other" ] || fault "$crate rests on more than it may: $other"
         continue
     fi
@@ -65,5 +69,5 @@ if [ "$wrong" -gt 0 ]; then
     echo "axioms: $wrong wrong"
     exit 1
 fi
-echo "axioms: none in $libraries libraries, the one for C among them; in $programs programs those of standard input and" \
-    "output, in import of arguments and a file, too"
+echo "axioms: none in $libraries libraries, the one for C among them; in $programs programs those of std's input and" \
+    "output, in import of its files and arguments, too"

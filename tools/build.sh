@@ -37,20 +37,26 @@ count_of() { # NAME
 
 # The files that are built from, as find prints them; with -newer FILE those alone that were changed after it.
 sources() { # [-newer FILE]
-    find "$here/crates.txt" "$here/crates" \( -name out -o -name edits -o -name must-fail \) -prune -o -type f "$@" -print
+    find "$here/crates.txt" "$here/crates" \( -name out -o -name edits -o -name must-fail \) -prune -o \
+        -type f "$@" -print
+}
+
+# The toolchain that is found, told at once: rt's file, its size and its time. Nothing where there is none.
+found_toolchain() {
+    rt=$(command -v rt) && stat -L -c '%n %s %Y' "$(readlink -f "$rt")"
 }
 
 # Notes with which toolchain something is built, and of files of which names. It is written before a build begins, and
 # stands beside the result when it has ended, as RESULT.built.
 note_build() { # FILE
-    { rt version && sources | sort | cksum; } >"$1"
+    { found_toolchain && sources | sort | cksum; } >"$1"
 }
 
 # Was RESULT built from the sources as they are, with this toolchain?
 fresh() { # RESULT
     note=$here/$1.built
     [ -s "$here/$1" ] && [ -f "$note" ] || return 1
-    now=$(rt version 2>/dev/null) && [ "$now" != "$(sed -n 1p "$note")" ] && return 1
+    now=$(found_toolchain) && [ "$now" != "$(sed -n 1p "$note")" ] && return 1
     [ "$(sources | sort | cksum)" = "$(sed -n 2p "$note")" ] || return 1
     [ -z "$(sources -newer "$note" | head -n 1)" ]
 }
@@ -72,8 +78,8 @@ show_build() { # COUNT
     done
 }
 
-# Builds RESULT of the crate by rt's VERB, where it is missing or older than its sources. MADE is the file that rt makes;
-# where RESULT is another one, it is made of it by the command that follows.
+# Builds RESULT of the crate by rt's VERB, where it is missing or older than its sources. MADE is the file that rt
+# makes; where RESULT is another one, it is made of it by the command that follows.
 built() { # CRATE VERB MADE RESULT [COMMAND...]
     ! fresh "$4" || return 0
     command -v rt >/dev/null || { echo "$name: $4 has to be built, and rt is not on the path" >&2; return 1; }

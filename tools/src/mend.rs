@@ -1,6 +1,6 @@
-//! Names of steps and goals that an edit changes. The checker names them after the code, as `if-t-gt2` after `t > 2`, so
-//! that with `t > 3` a proof names what is not there. It tells which name is nearest: where that differs in numbers and
-//! comparisons alone it is the same place of the code, and the proof is judged with that name.
+//! Names of steps and goals that an edit changes. The checker names them after the code, as `if-t-gt2` after `t > 2`,
+//! so that with `t > 3` a proof names what is not there. It tells which name is nearest: where that differs in numbers
+//! and comparisons alone it is the same place of the code, and the proof is judged with that name.
 use crate::verdict;
 
 /// A name in a file of proofs, and the one that stands for it now.

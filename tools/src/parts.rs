@@ -1,9 +1,9 @@
 //! The parts of a crate, and what each rests on. A part is a definition or a lemma of specs/ or proofs/, or the contract
 //! or the body of a function. It rests on what it names, and on what that rests on; a proof of a function rests on the
-//! function's contract and body, and on the contracts alone of what that calls. Of what the checker finds itself it tells
-//! at the function, so the body rests on all that the function's folder of proofs/ has, too, and on the lemmas that
-//! its attributes name. Names that could be meant count as meant, so that it may be more than the checker reads, never
-//! less.
+//! function's contract and body, and on the contracts alone of what that calls. Of what the checker finds itself it
+//! tells at the function, so the body rests on all that the function's folder of proofs/ has, too, and on the lemmas
+//! that its attributes name. Names that could be meant count as meant, so that it may be more than the checker reads,
+//! never less.
 use crate::antt::{self, Import, Named};
 use crate::claims::module;
 use crate::folder;

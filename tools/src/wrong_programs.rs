@@ -32,8 +32,8 @@ pub fn check(root: &Path) -> Result<Outcome, String> {
     })
 }
 
-/// What is wrong with the edits in a folder of a crate. In must-fail/, which `rt` reads, no line names what stands before
-/// the text that is meant.
+/// What is wrong with the edits in a folder of a crate. In must-fail/, which `rt` reads, no line names what stands
+/// before the text that is meant.
 fn unfit(dir: &Path, part: &str) -> Vec<String> {
     let mut wrong = Vec::new();
     for path in folder::entries(&dir.join(part)).unwrap_or_default() {
