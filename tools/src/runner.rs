@@ -22,15 +22,11 @@ pub struct Run {
     pub workers: usize,
     /// Where other work goes on beside this run: the file that is there once that has ended.
     pub others_end: Option<PathBuf>,
-    /// When nothing more is begun.
-    pub until: Option<Instant>,
 }
 
-/// How many edits were tried, how many were left when the time was over, and a line for each thing that is not as it
-/// must be.
+/// How many edits were tried, and a line for each thing that is not as it must be.
 pub struct Outcome {
     pub tried: usize,
-    pub left: usize,
     pub wrong: Vec<String>,
 }
 
@@ -74,8 +70,6 @@ struct Board {
     busy: usize,
     total: usize,
     tried: usize,
-    /// How many edits there was no time for.
-    late: usize,
     wrong: Vec<String>,
 }
 
@@ -126,7 +120,6 @@ pub fn run(settings: &Run, crates: &[Crate]) -> Result<Outcome, String> {
     let board = work.board.into_inner().map_err(|e| e.to_string())?;
     Ok(Outcome {
         tried: board.tried,
-        left: board.late,
         wrong: board.wrong,
     })
 }
@@ -150,8 +143,6 @@ fn board(all: &BTreeSet<String>, planned: &[Planned]) -> Board {
         queue.extend((0..p.batches.len()).map(unit(of, true)));
         queue.extend((0..p.single.len()).map(unit(of, false)));
     }
-    // Where the time does not reach, most edits were tried.
-    queue.sort_by_key(|u| std::cmp::Reverse(edits_of(planned, u)));
     Board {
         proofs: all.iter().map(|n| (n.clone(), Proof::Due)).collect(),
         left: planned
@@ -162,16 +153,7 @@ fn board(all: &BTreeSet<String>, planned: &[Planned]) -> Board {
         busy: 0,
         total: planned.iter().map(|p| p.krate.edits.len()).sum(),
         tried: 0,
-        late: 0,
         wrong: Vec::new(),
-    }
-}
-
-/// How many edits are tried in the check.
-fn edits_of(planned: &[Planned], u: &Unit) -> usize {
-    match u.batch {
-        true => planned[u.of].batches[u.at].len(),
-        false => 1,
     }
 }
 
@@ -202,14 +184,6 @@ impl Work<'_> {
             return Next::Wait;
         }
         let mut b = self.board();
-        if self.settings.until.is_some_and(|t| Instant::now() > t) {
-            let queue = std::mem::take(&mut b.queue);
-            b.late += queue
-                .iter()
-                .map(|u| edits_of(&self.planned, u))
-                .sum::<usize>();
-            return Next::Done;
-        }
         if let Some(name) = self.due(&mut b) {
             b.busy += 1;
             b.proofs.insert(name.clone(), Proof::Begun);

@@ -1,22 +1,18 @@
 //! Tries the wrong programs in crates/*/edits: the checker must refuse each.
-//! `edits [--jobs N] [--logs DIR] [--beside FILE] [--minutes N] [CRATE | CRATE/NAME]...`, from the top of the
-//! repository. With --beside another command is at work on the crates here, after which FILE is there: a copy is proved,
-//! and there are two checks at a time until then. With --minutes none is begun after so many; what is left is told. The
-//! last line is `edits: N tried, 0 not refused` if all is well.
+//! `edits [--jobs N] [--logs DIR] [--beside FILE] [CRATE | CRATE/NAME]...`, from the top of the repository. With
+//! --beside another command is at work on the crates here, after which FILE is there: a copy is proved, and there are two
+//! checks at a time until then. The last line is `edits: N tried, 0 not refused` if all is well.
 use std::path::PathBuf;
 use std::process::ExitCode;
-use std::time::{Duration, Instant};
 use tools::list;
 use tools::runner::{self, Run};
 
-const USAGE: &str =
-    "usage: edits [--jobs N] [--logs DIR] [--beside FILE] [--minutes N] [CRATE | CRATE/NAME]...";
+const USAGE: &str = "usage: edits [--jobs N] [--logs DIR] [--beside FILE] [CRATE | CRATE/NAME]...";
 
 struct Arguments {
     jobs: usize,
     logs: PathBuf,
     beside: Option<PathBuf>,
-    until: Option<Instant>,
     crates: Vec<String>,
 }
 
@@ -39,7 +35,6 @@ fn arguments() -> Result<Arguments, String> {
         jobs,
         logs: PathBuf::from("logs/edits"),
         beside: None,
-        until: None,
         crates: Vec::new(),
     };
     let mut words = std::env::args().skip(1);
@@ -51,11 +46,6 @@ fn arguments() -> Result<Arguments, String> {
             }
             "--logs" => found.logs = words.next().ok_or("--logs takes a folder")?.into(),
             "--beside" => found.beside = Some(words.next().ok_or("--beside takes a file")?.into()),
-            "--minutes" => {
-                let n: Option<u64> = words.next().and_then(|w| w.parse().ok());
-                let minutes = n.ok_or("--minutes takes a number")?;
-                found.until = Some(Instant::now() + Duration::from_secs(60 * minutes));
-            }
             _ if word.starts_with('-') => return Err(USAGE.into()),
             _ => found.crates.push(word),
         }
@@ -81,20 +71,15 @@ fn try_all(a: Arguments) -> Result<bool, String> {
         logs: a.logs,
         workers: a.jobs,
         others_end: a.beside,
-        until: a.until,
     };
     let outcome = runner::run(&settings, &crates)?;
     for line in &outcome.wrong {
         println!("edits: WRONG: {line}");
     }
-    let missed = count - outcome.tried - outcome.left;
-    if missed > 0 {
-        println!("edits: WRONG: {missed} of {count} edits were not come to");
-    }
-    if outcome.left > 0 {
+    if outcome.tried != count {
         println!(
-            "edits: {} of {count} left, as the time was over",
-            outcome.left
+            "edits: WRONG: {} of {count} edits were not come to",
+            count - outcome.tried
         );
     }
     println!(
@@ -102,5 +87,5 @@ fn try_all(a: Arguments) -> Result<bool, String> {
         outcome.tried,
         outcome.wrong.len()
     );
-    Ok(outcome.wrong.is_empty() && missed == 0)
+    Ok(outcome.wrong.is_empty() && outcome.tried == count)
 }
