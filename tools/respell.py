@@ -1,15 +1,15 @@
 #!/usr/bin/env python3
 """Brings the names of this repository's definitions, lemmas, fields and local proofs to the spelling of today's Rattle.
 
-Run once, at the top of the checkout, after /opt/rattle/port/port.py:
+Run once, at the top of the checkout, after the toolchain's port.py:
 
     python3 tools/respell.py            writes the files
     python3 tools/respell.py --list     prints old and new names only
 
 A name that is declared in crates/*/specs or crates/*/proofs and whose words are joined by dashes is spelled with
-underscores: `first-day` becomes `first_day`. A lemma keeps a dash where it joins a function's name with
-one of the library's, as in `length-bytes_of`. Names of the library keep their spelling, and so do the names of rules (docs/RULES.md), files, refusals
-and exported functions. In comments and documents only what stands between backticks is respelled. Names of goals in a
+underscores: `first-day` becomes `first_day`. A lemma keeps a dash where it joins a function's name with one of the
+library's, as in `length-bytes_of`. Names of the library keep their spelling, and so do the names of rules
+(docs/RULES.md), files, refusals and exported functions. In comments and documents only what stands between backticks is respelled. Names of goals in a
 function's own proof file (`returns-2`, `loop-again`) are not this repository's, and stay.
 """
 import collections
