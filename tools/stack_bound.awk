@@ -96,7 +96,7 @@ at == "" || !/^ *[0-9a-f]+:\t/ { next }
         if (n > red[at]) red[at] = n
     }
     if (name ~ /^call/ && operands ~ /^\*/) pointers[at] = 1
-    if (name ~ /^(call|j)/ && match($0, /<[^>]*>/)) {
+    if (name ~ /^(call|j)/ && match($0, /<.*>/)) {
         to = substr($0, RSTART + 1, RLENGTH - 2)
         sub(/\+0x[0-9a-f]+$/, "", to)
         if (name ~ /^call/ || to != at) calls[at] = calls[at] " " to

@@ -22,8 +22,8 @@ pub fn in_text(prefix: &str, text: &str) -> Vec<Function> {
         } else if code.is_empty() || item(code) {
             attributes = None;
         }
-        if let Some(name) = code.strip_prefix("impl ") {
-            owner = format!("{}::", name.trim_end_matches(['{', ' ']));
+        if let Some((name, of)) = implemented(code) {
+            owner = format!("{name}{}::", of.unwrap_or(""));
         } else if indent == 0 && code == "}" && open.is_none() {
             owner.clear();
         }
@@ -48,6 +48,20 @@ pub fn in_text(prefix: &str, text: &str) -> Vec<Function> {
         at += line.len();
     }
     found
+}
+
+/// The type of a line that begins an `impl`, and the trait where it is of one; both without their parameters.
+pub fn implemented(code: &str) -> Option<(&str, Option<&str>)> {
+    let rest = code.strip_prefix("impl")?;
+    let rest = match rest.strip_prefix('<') {
+        Some(parameters) => parameters.split_once("> ")?.1,
+        None => rest.strip_prefix(' ')?,
+    };
+    let bare = |name: &'_ str| name.find([' ', '<', '{']).unwrap_or(name.len());
+    match rest.split_once(" for ") {
+        Some((of, name)) => Some((&name[..bare(name)], Some(&of[..bare(of)]))),
+        None => Some((&rest[..bare(rest)], None)),
+    }
 }
 
 fn fn_name(code: &str) -> Option<&str> {
@@ -95,6 +109,18 @@ pub fn constants(text: &str) -> Vec<Named> {
 #[cfg(test)]
 mod tests {
     use super::*;
+
+    #[test]
+    fn impls() {
+        assert_eq!(implemented("impl Account {"), Some(("Account", None)));
+        assert_eq!(implemented("impl Reader<'_> {"), Some(("Reader", None)));
+        assert_eq!(implemented("impl<'a> Reader<'a> {"), Some(("Reader", None)));
+        let of = Some(("Reader", Some("Iterator")));
+        assert_eq!(implemented("impl Iterator for Reader<'_> {"), of);
+        let of = Some(("u64", Some("From")));
+        assert_eq!(implemented("impl From<Refusal> for u64 {"), of);
+        assert_eq!(implemented("implied"), None);
+    }
 
     const TEXT: &str = "const TWO: u64 = 2;\n\n#[tactic(auto,\n    using(crate::proofs::Laws::low_law))]\nfn low(n: u64) -> u64\n    ensures { result ≡ n }\n{\n    n + 1\n}\n\npub fn claim()\n    ensures { Claim }\n{}\n\n#[derive(Clone, Copy)]\nstruct Box {\n    n: u64,\n}\n\nimpl Box {\n    pub(crate) fn beside(self) -> u64\n    {\n        self.n - 3\n    }\n}\n";
 

@@ -1,6 +1,7 @@
 //! What a rule can name beside definitions: public functions, wrong programs, and what runs it.
 use crate::claims::module;
 use crate::folder;
+use crate::functions::implemented;
 use crate::wrong_programs::names_in;
 use std::collections::BTreeSet;
 use std::fs;
@@ -73,17 +74,21 @@ pub fn names(root: &Path) -> Result<Names, String> {
     Ok(found)
 }
 
-/// The public functions of a file, by the path of their module, and the methods by that of their type.
+/// The public functions of a file, by the path of their module, and the methods by that of their type; a trait's are all
+/// public.
 fn functions(krate: &str, file: &Path, text: &str) -> Vec<String> {
     let prefix = module(krate, file);
-    let (mut found, mut owner) = (Vec::new(), String::new());
+    let (mut found, mut owner, mut of_trait) = (Vec::new(), String::new(), false);
     for line in text.lines() {
-        if let Some(rest) = line.strip_prefix("impl ") {
-            let name = rest.split([' ', '<', '{']).next().unwrap_or("");
+        if let Some((name, of)) = implemented(line) {
             owner = format!("{krate}::{name}");
+            of_trait = of.is_some();
+        } else if line == "}" {
+            of_trait = false;
         }
         let code = line.trim_start();
-        let Some((_, rest)) = code.split_once("fn ").filter(|_| code.starts_with("pub ")) else {
+        let open = code.starts_with("pub ") || of_trait && code.starts_with("fn ");
+        let Some((_, rest)) = code.split_once("fn ").filter(|_| open) else {
             continue;
         };
         let name = rest.split(['(', '<']).next().unwrap_or("");

@@ -9,12 +9,14 @@ use Rattle.account.specs.Largest.{use_accepted, most_units}
 use Rattle.account.proofs.Search.{largest_same}
 use Rattle.account.specs.declared.Account.{Account}
 use Rattle.state.specs.declared.StateApplied.{StateApplied}
-use Rattle.state.specs.declared.Answer.TheVariants as Told
+use Rattle.state.specs.declared.Outcome.TheVariants.{UpTo}
 use Rattle.account.specs.declared.Applied.{Applied}
 use Rattle.account.specs.declared.Call.TheVariants.{Use, Afford}
 use Rattle.account.specs.Whole.{sound}
 use Rattle.account.specs.Calls.{own_reasons, reasons, verdict, accepts, after, step}
 use Rattle.account.specs.Answers.{afford_of, accepted_answer, applied, applied_state}
+use Rattle.std.specs.Prelude.{Ok, Err}
+use Rattle.tariff.specs.declared.Refusal.TheVariants.{Unplaced}
 
 accepts_is : (a : Account) (k : Kind) (n : ℕ) → sound a ≡ true → accepts a (Use k n) ≡ use_accepted a.state k n
 unfolding accepts verdict reasons own_reasons verdict_of use_accepted
@@ -25,11 +27,11 @@ unfolding afford_of most_units
 afford_is a k s = largest_same (λ n. accepts a (Use k n)) (use_accepted a.state k) 1000000000 (λ n. accepts_is a k n s)
 
 module _ (a : Account) (k : Kind) (s : sound a ≡ true) where
-  pub afford_nowhere : is_placed a.state.place ≡ false → ◌≡◌ {A = Applied} (record { answer = Told.Refused 3; account = a }) (applied a (Afford k))
+  pub afford_nowhere : is_placed a.state.place ≡ false → ◌≡◌ {A = Applied} (record { answer = Err Unplaced; account = a }) (applied a (Afford k))
   unfolding applied accepted_answer verdict reasons own_reasons verdict_of step accepts
   afford_nowhere p = rw (s, p) refl
 
-  pub afford_yes : (r : ℕ) → is_placed a.state.place ≡ true → r ≡ most_units a.state k → ◌≡◌ {A = Applied} (record { answer = Told.UpTo r; account = a }) (applied a (Afford k))
+  pub afford_yes : (r : ℕ) → is_placed a.state.place ≡ true → r ≡ most_units a.state k → ◌≡◌ {A = Applied} (record { answer = Ok (UpTo r); account = a }) (applied a (Afford k))
   unfolding applied accepted_answer verdict reasons own_reasons verdict_of step accepts after
   afford_yes r p e =
       let q : r ≡ afford_of a k = e ∙ sym (afford_is a k s) in

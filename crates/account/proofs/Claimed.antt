@@ -5,7 +5,6 @@ use mathlib.Core.Bool.{Bool, true, false, not, cond}
 use lib.Dec.{leb}
 use borrow.Author.Tests.{leb-true, leb-false, lt-leb}
 use Rattle.tariff.specs.declared.Kind.{Kind}
-use Rattle.tariff.specs.declared.Verdict.TheVariants.{Refused}
 use Rattle.tariff.specs.Tests.{verdict_of, is_accepted}
 use Rattle.tariff.proofs.Tests.{and-false}
 use Rattle.presence.specs.Day.{is_placed}
@@ -20,13 +19,15 @@ use Rattle.account.specs.Answers.{open_answer, afford_of}
 use Rattle.account.specs.Claims.{AffordIsLargest, AffordChangesNothing, RefusedChangesNothing, OpenTellsSound}
 use Rattle.account.proofs.Kept.{sound_passes, sound_opened, no_plan_unsound}
 use Rattle.account.proofs.Affords.{afford_keeps}
+use Rattle.std.specs.Prelude.{Err}
+use Rattle.tariff.specs.declared.Refusal.TheVariants.{Unsound, Unplaced, UnitCount}
 
 -- refusal 4 holds for every larger number
 refused_many : (a : Account) (k : Kind) (n : ℕ) → 1000000000 < n → accepts a (Use k n) ≡ false
 unfolding accepts verdict reasons own_reasons use_reasons verdict_of
 refused_many a k n h = rw (lt-leb n 1000000000 h, and-false (leb 1 n)) (go (sound a) (is_placed a.state.place))
   where
-    go : (b c : Bool) → is_accepted (cond (not b) (Refused 0) (cond (not c) (Refused 3) (Refused 4))) ≡ false
+    go : (b c : Bool) → is_accepted (cond (not b) (Err Unsound) (cond (not c) (Err Unplaced) (Err UnitCount))) ≡ false
     go true true = refl
     go true false = refl
     go false c = refl

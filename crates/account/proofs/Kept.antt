@@ -1,6 +1,6 @@
 -- An account as Open returns it is sound, and every accepted call keeps a sound account sound; uses add up. Assumes nothing.
 use Prim.Native.Nat.{ℕ, ◌+◌, ◌*◌, ◌/◌, ◌≤◌, ◌<◌}
-use mathlib.Core.Path.{◌≡◌, refl, ap}
+use mathlib.Core.Path.{◌≡◌, refl}
 use mathlib.Core.Bool.{Bool, true, false, cond, ◌&&◌}
 use mathlib.Core.List.{List}
 use native.Mathlib.Omega.{arith}
@@ -11,8 +11,6 @@ use Rattle.tariff.specs.declared.Units.{Units}
 use Rattle.tariff.specs.declared.Kind.{Kind}
 use Rattle.tariff.specs.declared.Place.{Place}
 use Rattle.tariff.specs.declared.Plan.{Plan}
-use Rattle.tariff.specs.declared.Allowance.{Allowance}
-use Rattle.tariff.specs.declared.Allowance.TheVariants.{NoLimit, Kilobytes}
 use Rattle.tariff.specs.Tests.{all, between, verdict_of, is_accepted}
 use Rattle.tariff.specs.Units.{◌⊕◌, only, AtMost}
 use Rattle.tariff.specs.Caps.{built_in, caps_on}
@@ -23,7 +21,6 @@ use Rattle.tariff.proofs.CapLaws.{basis_grows}
 use Rattle.tariff.proofs.Tables.{caps_bound}
 use Rattle.tariff.proofs.PlanLaws.{plan_ranged, opens_tells, credit_bounded, fee_bounded}
 use Rattle.tariff.proofs.ChargeLaws.{counted_bounded}
-use Rattle.presence.specs.declared.Location.TheVariants.{At}
 use Rattle.presence.specs.declared.Service.{Service}
 use Rattle.presence.specs.declared.ServiceState.{ServiceState}
 use Rattle.presence.specs.declared.ServiceState.TheVariants.{Clear, Warned, Surcharged}
@@ -49,6 +46,7 @@ use Rattle.account.specs.Whole.{sound, opened, spend, register_at, top_up_by, da
 use Rattle.account.specs.Answers.{no_plan}
 use Rattle.account.specs.Calls.{own_reasons, reasons, verdict, accepts, after, step}
 use Rattle.account.proofs.Parts.{Logged, log_passes, has_counters, has_charges, has_log}
+use Rattle.std.specs.Prelude.{Option, Some, None}
 
 -- soundness as facts
 pub record Sound (a : Account) : Type 0 where
@@ -74,7 +72,7 @@ plan_fits : (p : Plan) (cap : ℕ) → p.fee ≤ 10000000 → allowance_fits (pl
 unfolding plan_allowance
 plan_fits p cap h = go (is_prepaid p.form) (open_bundle p.form p.fee cap p.volume)
   where
-    go : (b c : Bool) → allowance_fits (cond b (Kilobytes 0) (cond c (Kilobytes (2 * p.fee * 1048576 / cap)) NoLimit)) ≡ true
+    go : (b c : Bool) → allowance_fits (cond b (Some 0) (cond c (Some (2 * p.fee * 1048576 / cap)) None)) ≡ true
     go true c = refl
     go false true = le-leb _ _ (fee_bounded p.fee cap h)
     go false false = refl
@@ -105,7 +103,7 @@ either_bounded : (b : Bool) (m n : ℕ) → m ≤ n → cond b 0 m ≤ n
 either_bounded true m n h = omega arith
 either_bounded false m n h = h
 
-either_fits : (b : Bool) (l m : Allowance) → allowance_fits l ≡ true → allowance_fits m ≡ true → allowance_fits (cond b l m) ≡ true
+either_fits : (b : Bool) (l m : Option ℕ) → allowance_fits l ≡ true → allowance_fits m ≡ true → allowance_fits (cond b l m) ≡ true
 either_fits true l m e f = e
 either_fits false l m e f = f
 
@@ -134,7 +132,7 @@ sound_register a q s =
         messages_ok = f.messages_ok;
       };
       money = record { worked = record { home_is = s.money.worked.home_is; extra_is = s.money.worked.extra_is }; balance = s.money.balance };
-      days = record { days_ok = omega (arith, s.days.days_ok, day_mark_bounded (At q) a.state.today); rest_ok = s.days.rest_ok; marks_ok = s.days.marks_ok };
+      days = record { days_ok = omega (arith, s.days.days_ok, day_mark_bounded (Some q) a.state.today); rest_ok = s.days.rest_ok; marks_ok = s.days.marks_ok };
     }
 
 sound_top_up : (a : Account) (n : ℕ) → a.state.money.paid + n ≤ 1000000000 → Sound a → Sound (top_up_by a n)
@@ -303,10 +301,6 @@ sound_opened p e =
 pub spend_adds : (a : Account) (u c v d : Units) → Worked a.state → spend (spend a u c) v d ≡ spend a (u ⊕ v) (c ⊕ d)
 unfolding spend
 spend_adds a u c v d w = λ i. record { state = spent_adds a.state u c v d w i; log = a.log }
-
--- equal accounts stay equal under every call
-pub equal_step : (a b : Account) (c : Call) → a ≡ b → step a c ≡ step b c
-equal_step a b c e = ap (λ (x : Account). step x c) e
 
 -- the account that a refused Open hands back is not sound
 pub no_plan_unsound : sound (opened no_plan) ≡ false

@@ -1,6 +1,6 @@
 -- What soundness tells, part by part. Assumes nothing.
 use Prim.Native.Nat.{ℕ, ◌≤◌, ◌<◌}
-use mathlib.Core.Path.{◌≡◌}
+use mathlib.Core.Path.{◌≡◌, ap}
 use mathlib.Core.Bool.{true}
 use mathlib.Core.List.{List}
 use native.Mathlib.Numerals.{add-one}
@@ -9,13 +9,18 @@ use lib.ListN.{drop}
 use Rattle.tariff.specs.declared.Units.{Units}
 use Rattle.tariff.specs.Units.{◌⊕◌, AtMost}
 use Rattle.tariff.proofs.Tests.{all_nil, all_cons, all_head, all_tail}
+use Rattle.std.specs.Prelude.{Ok}
+use Rattle.tariff.specs.declared.Plan.{Plan}
+use Rattle.tariff.specs.Tests.{is_accepted}
+use Rattle.tariff.specs.Plan.{plan_verdict}
+use Rattle.tariff.proofs.PlanLaws.{plan_ranged, opens_tells}
 use Rattle.tariff.proofs.Sums.{fits_tells, fits_yes}
 use Rattle.presence.specs.declared.Day.{Day}
 use Rattle.presence.specs.Day.{day_units, joined}
 use Rattle.presence.specs.Log.{days_of, units_over, all_blank, marks_proper, log_within}
 use Rattle.presence.proofs.Logs.{over_joined}
 use Rattle.state.specs.Sound.{counters_sound, charges_sound}
-use Rattle.state.specs.Needs.{Steady, Turns}
+use Rattle.state.specs.Needs.{Steady, Turns, Payable}
 use Rattle.state.proofs.Soundness.{counters_tell, charges_tell}
 use Rattle.account.specs.declared.Account.{Account}
 use Rattle.account.specs.Whole.{sound}
@@ -69,3 +74,9 @@ module _ (a : Account) (s : sound a ≡ true) where
         before_end = h;
         within = rw (add-one a.state.logged) (omega (arith, o, has_log.days_ok, f.lifetime_ok));
       }
+
+-- a plan that opens has a fee and a volume that an allowance can be worked out from
+pub opens_payable : (p : Plan) → plan_verdict p ≡ Ok tt → Payable p
+opens_payable p e =
+    let r = plan_ranged p (opens_tells p (ap is_accepted e)).ranges in
+    record { money = r.money; kilobytes = r.kilobytes }

@@ -15,7 +15,7 @@ use Rattle.presence.specs.Day.{joined}
 use Rattle.presence.specs.Log.{days_of, logged_with}
 use Rattle.presence.proofs.Numbers.{logged_size}
 use Rattle.state.specs.declared.State.{State}
-use Rattle.state.specs.declared.Answer.TheVariants.{Done, Refused}
+use Rattle.state.specs.declared.Outcome.TheVariants.{Done}
 use Rattle.state.specs.Use.{charged_units, spent}
 use Rattle.state.specs.Moves.{registered, topped, next_state_of}
 use Rattle.state.specs.Reasons.{use_reasons, top_up_reasons, next_day_reasons, use_state}
@@ -28,6 +28,8 @@ use Rattle.account.specs.declared.Call.TheVariants.{Register, Use, TopUp, NextDa
 use Rattle.account.specs.Whole.{sound, opened, spend, register_at, top_up_by, day_after}
 use Rattle.account.specs.Calls.{own_reasons, reasons, verdict, accepts, after, step}
 use Rattle.account.specs.Answers.{no_plan, open_answer, opened_parts, accepted_answer, applied}
+use Rattle.std.specs.Prelude.{Ok, Err}
+use Rattle.tariff.specs.declared.Refusal.TheVariants.{Unsound, TopUpSize, PaidLimit, LastDay}
 
 either : (b : Bool) (a : Account) (x : State) → ◌≡◌ {A = Account} (record { state = cond b x a.state; log = a.log }) (cond b (record { state = x; log = a.log }) a)
 either true a x = refl
@@ -42,35 +44,35 @@ use_sound a k n s =
       account = either (is_accepted (verdict_of (use_reasons a.state k n))) a (spent a.state (only k n) (charged_units a.state.place k n)) i;
     })
 
-pub unsound : (a : Account) (c : Call) → sound a ≡ false → ◌≡◌ {A = Applied} (record { answer = Refused 0; account = a }) (applied a c)
+pub unsound : (a : Account) (c : Call) → sound a ≡ false → ◌≡◌ {A = Applied} (record { answer = Err Unsound; account = a }) (applied a c)
 unfolding applied verdict reasons verdict_of step accepts
 unsound a c s = rw s refl
 
 module _ (a : Account) (s : sound a ≡ true) where
-  pub registered_yes : (p : Place) → ◌≡◌ {A = Applied} (record { answer = Done; account = record { state = registered a.state p; log = a.log } }) (applied a (Register p))
+  pub registered_yes : (p : Place) → ◌≡◌ {A = Applied} (record { answer = Ok Done; account = record { state = registered a.state p; log = a.log } }) (applied a (Register p))
   unfolding applied accepted_answer verdict reasons own_reasons verdict_of step accepts after register_at
   registered_yes p = rw s refl
 
-  pub topped_7 : (n : ℕ) → between 1 n 10000000 ≡ false → ◌≡◌ {A = Applied} (record { answer = Refused 7; account = a }) (applied a (TopUp n))
+  pub topped_7 : (n : ℕ) → between 1 n 10000000 ≡ false → ◌≡◌ {A = Applied} (record { answer = Err TopUpSize; account = a }) (applied a (TopUp n))
   unfolding applied accepted_answer verdict reasons own_reasons verdict_of step accepts top_up_reasons
   topped_7 n e = rw (s, e) refl
 
-  pub topped_8 : (n : ℕ) → between 1 n 10000000 ≡ true → 1000000000 < a.state.money.paid + n → ◌≡◌ {A = Applied} (record { answer = Refused 8; account = a }) (applied a (TopUp n))
+  pub topped_8 : (n : ℕ) → between 1 n 10000000 ≡ true → 1000000000 < a.state.money.paid + n → ◌≡◌ {A = Applied} (record { answer = Err PaidLimit; account = a }) (applied a (TopUp n))
   unfolding applied accepted_answer verdict reasons own_reasons verdict_of step accepts top_up_reasons
   topped_8 n e l = rw (s, e, lt-ltb _ _ l) refl
 
   pub topped_yes : (n : ℕ) → between 1 n 10000000 ≡ true → a.state.money.paid + n ≤ 1000000000
-      → ◌≡◌ {A = Applied} (record { answer = Done; account = record { state = topped a.state n; log = a.log } }) (applied a (TopUp n))
+      → ◌≡◌ {A = Applied} (record { answer = Ok Done; account = record { state = topped a.state n; log = a.log } }) (applied a (TopUp n))
   unfolding applied accepted_answer verdict reasons own_reasons verdict_of step accepts top_up_reasons after top_up_by
   topped_yes n e l = rw (s, e, le-ltb _ _ l) refl
 
-  pub next_9 : 3833 ≤ a.state.day → ◌≡◌ {A = Applied} (record { answer = Refused 9; account = a }) (applied a NextDay)
+  pub next_9 : 3833 ≤ a.state.day → ◌≡◌ {A = Applied} (record { answer = Err LastDay; account = a }) (applied a NextDay)
   unfolding applied accepted_answer verdict reasons own_reasons verdict_of step accepts next_day_reasons
   next_9 h = rw (s, le-leb _ _ h) refl
 
   pub next_yes : a.state.day < 3833
       → ◌≡◌ {A = Applied}
-      (record { answer = Done; account = record { state = next_state_of a.state (joined a.state.today (days_of a.log)); log = logged_with a.state.today a.log } })
+      (record { answer = Ok Done; account = record { state = next_state_of a.state (joined a.state.today (days_of a.log)); log = logged_with a.state.today a.log } })
       (applied a NextDay)
   unfolding applied accepted_answer verdict reasons own_reasons verdict_of step accepts next_day_reasons after day_after
   next_yes h = rw (s, lt-leb _ _ h) refl

@@ -6,7 +6,6 @@ use native.Mathlib.Omega.{arith}
 use lib.Dec.{leb, ltb, eqb}
 use borrow.Author.Tests.{le-leb, lt-leb, eqb-true, eqb-false}
 use Rattle.tariff.specs.declared.Kind.{Kind}
-use Rattle.tariff.specs.declared.Verdict.TheVariants.{Accepted, Refused}
 use Rattle.tariff.specs.Tests.{verdict_of, is_accepted}
 use Rattle.tariff.proofs.Tests.{and-false}
 use Rattle.presence.specs.Day.{is_placed}
@@ -18,6 +17,8 @@ use Rattle.quotes.proofs.Quoting.{within_is, within_less}
 use Rattle.state.specs.Use.{charged_units, cost}
 use Rattle.state.specs.Reasons.{overfills, use_reasons}
 use Rattle.account.specs.Largest.{largest, use_accepted, most_units}
+use Rattle.std.specs.Prelude.{Ok, Err}
+use Rattle.tariff.specs.declared.Refusal.TheVariants.{Unplaced, UnitCount, MeterFull, OverCredit}
 
 -- r is the largest that passes, from 1 to n
 pub largest_is : (test : ℕ → Bool) (n r : ℕ) → r ≤ n → (0 < r → test r ≡ true) → ((m : ℕ) → r < m → m ≤ n → test m ≡ false) → r ≡ largest test n
@@ -73,7 +74,7 @@ module _ (a : State) (k : Kind) where
   accepted_is n p s f =
       rw (p, le-leb 1 n s, le-leb n 1000000000 f) (go (overfills a k n) (ltb a.money.credit (cost a (charged_units a.place k n))))
     where
-      go : (b c : Bool) → is_accepted (cond b (Refused 5) (cond c (Refused 6) Accepted)) ≡ not b && not c
+      go : (b c : Bool) → is_accepted (cond b (Err MeterFull) (cond c (Err OverCredit) (Ok tt))) ≡ not b && not c
       go true c = refl
       go false true = refl
       go false false = refl
@@ -83,7 +84,7 @@ module _ (a : State) (k : Kind) where
   unfolding use_accepted use_reasons verdict_of
   refused_many n h = rw (lt-leb n 1000000000 h, and-false (leb 1 n)) (go (is_placed a.place))
     where
-      go : (b : Bool) → is_accepted (cond (not b) (Refused 3) (Refused 4)) ≡ false
+      go : (b : Bool) → is_accepted (cond (not b) (Err Unplaced) (Err UnitCount)) ≡ false
       go true = refl
       go false = refl
 

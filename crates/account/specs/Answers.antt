@@ -7,8 +7,8 @@ use Rattle.tariff.specs.declared.Plan.{Plan}
 use Rattle.tariff.specs.Tests.{is_accepted}
 use Rattle.tariff.specs.Plan.{plan_verdict}
 use Rattle.state.specs.declared.State.{State}
-use Rattle.state.specs.declared.Answer.{Answer}
-use Rattle.state.specs.declared.Answer.TheVariants.{Done, Charged, UpTo}
+use Rattle.state.specs.declared.Outcome.{Outcome}
+use Rattle.state.specs.declared.Outcome.TheVariants.{Done, Charged, UpTo}
 use Rattle.state.specs.declared.StateApplied.{StateApplied}
 use Rattle.state.specs.Use.{charged_units, charge_of}
 use Rattle.state.specs.Reasons.{answer_by}
@@ -27,7 +27,7 @@ use Rattle.account.specs.Largest.{largest}
 abbrev pub no_plan : Plan
 no_plan = record { form = Prepaid; start = 0; pergb = 0; perminute = 0; persms = 0; fee = 0; volume = 0 }
 
--- order-4, list-4, account-3: Open's number, or the account. Law: it is sound just where Open accepts
+-- order-4, list-4, account-3: Open's refusal, or the account. Law: it is sound just where Open accepts
 -- (`OpenTellsSound`)
 unfoldable pub open_answer : Plan → Opened
 open_answer p = record {
@@ -50,7 +50,7 @@ pub record Affordable (a : Account) (k : Kind) (r : ℕ) : Type 0 where
   pub none_larger : (m : ℕ) → r < m → accepts a (Use k m) ≡ false
 
 -- use-14, afford-1, form-8: a use answers its charge, Afford its number, other calls nothing more
-unfoldable pub accepted_answer : Account → Call → Answer
+unfoldable pub accepted_answer : Account → Call → Outcome
 accepted_answer a (Register p) = Done
 accepted_answer a (Use k n) = Charged (charge_of a.state k (charged_units a.state.place k n))
 accepted_answer a (TopUp n) = Done

@@ -1,7 +1,6 @@
 -- What every call on an account declines, and what it makes of the account (order-1 to order-3, refusal-0, list-3).
 -- Choice (docs/DECISIONS.md, "Afford"): refusals. Assumes nothing.
-use Rattle.std.specs.Prelude.{Bool, not, cond, List, [], ◌∷◌}
-use Rattle.tariff.specs.declared.Verdict.{Verdict}
+use Rattle.std.specs.Prelude.{Bool, not, cond, List, [], ◌∷◌, Result, ⊤}
 use Rattle.tariff.specs.Tests.{Reason, because, verdict_of, is_accepted}
 use Rattle.tariff.specs.Units.{only}
 use Rattle.presence.specs.Day.{is_placed}
@@ -11,6 +10,8 @@ use Rattle.account.specs.declared.Account.{Account}
 use Rattle.account.specs.declared.Call.{Call}
 use Rattle.account.specs.declared.Call.TheVariants.{Register, Use, TopUp, NextDay, Afford}
 use Rattle.account.specs.Whole.{sound, register_at, spend, top_up_by, day_after}
+use Rattle.tariff.specs.declared.Refusal.{Refusal}
+use Rattle.tariff.specs.declared.Refusal.TheVariants.{Unsound, Unplaced}
 
 -- order-3, refusal-3: the call's own reasons; Register has none, Afford 3
 unfoldable pub own_reasons : Account → Call → List Reason
@@ -18,14 +19,14 @@ own_reasons a (Register p) = []
 own_reasons a (Use k n) = use_reasons a.state k n
 own_reasons a (TopUp n) = top_up_reasons a.state n
 own_reasons a NextDay = next_day_reasons a.state
-own_reasons a (Afford k) = because 3 (not (is_placed a.state.place)) ∷ []
+own_reasons a (Afford k) = because Unplaced (not (is_placed a.state.place)) ∷ []
 
 -- refusal-0, order-3: 0 in front of the call's own
 unfoldable pub reasons : Account → Call → List Reason
-reasons a c = because 0 (not (sound a)) ∷ own_reasons a c
+reasons a c = because Unsound (not (sound a)) ∷ own_reasons a c
 
--- order-1: the first number whose reason holds
-unfoldable pub verdict : Account → Call → Verdict
+-- order-1: the refusal of the first reason that holds
+unfoldable pub verdict : Account → Call → Result ⊤ Refusal
 verdict a c = verdict_of (reasons a c)
 
 -- list-3: no reason holds

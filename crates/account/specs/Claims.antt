@@ -1,9 +1,9 @@
 -- What holds of every account and call beside the answers themselves (afford-1, order-2, account-3). Choices
 -- (docs/DECISIONS.md, "Account" and "Afford"): refused Open; effect. Assumes nothing.
-use Rattle.std.specs.Prelude.{ℕ, ◌≡◌, true, false}
+use Rattle.std.specs.Prelude.{◌≡◌, true, false, Ok, Err}
 use Rattle.tariff.specs.declared.Kind.{Kind}
 use Rattle.tariff.specs.declared.Plan.{Plan}
-use Rattle.tariff.specs.declared.Verdict.TheVariants.{Accepted, Refused}
+use Rattle.tariff.specs.declared.Refusal.{Refusal}
 use Rattle.account.specs.declared.Account.{Account}
 use Rattle.account.specs.declared.Call.{Call}
 use Rattle.account.specs.declared.Call.TheVariants.{Afford}
@@ -25,8 +25,8 @@ RefusedChangesNothing = (a : Account) (c : Call) → accepts a c ≡ false → s
 
 -- account-3, order-2: Open hands out a sound account where it accepts, else one that every call refuses with 0
 pub record OpensSound (p : Plan) : Type 0 where
-  pub taken : (open_answer p).answer ≡ Accepted → sound (open_answer p).account ≡ true
-  pub refused : (n : ℕ) → (open_answer p).answer ≡ Refused n → sound (open_answer p).account ≡ false
+  pub taken : (open_answer p).answer ≡ Ok tt → sound (open_answer p).account ≡ true
+  pub refused : (r : Refusal) → (open_answer p).answer ≡ Err r → sound (open_answer p).account ≡ false
 
 -- account-3, order-2: for every plan
 abbrev pub OpenTellsSound : Type 0

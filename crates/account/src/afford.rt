@@ -15,6 +15,7 @@ pub fn most_of(a: State, k: Kind) -> u64
     let q = quotes::quote_of(a, k);
     let mut lo: u64 = 0;
     let mut hi: u64 = 1000000000;
+    // kept: no index is counted; what lies between is halved
     while lo < hi {
         let mid = lo + (hi - lo + 1) / 2;
         if quotes::within_quote(q, mid) {

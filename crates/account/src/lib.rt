@@ -9,15 +9,16 @@ ghost use Rattle.account.specs.Whole.{sound};
 ghost use Rattle.account.specs.Calls.{step};
 ghost use Rattle.account.specs.Answers.{open_answer, opened_parts, applied, account_of, applied_state};
 
-use state::{Answer, State, StateApplied};
-use tariff::{Form, Kind, Place, Plan, Verdict};
+use presence::Log;
+use state::{Answer, Outcome, State, StateApplied};
+use tariff::{Form, Kind, Place, Plan, Refusal, Verdict};
 
 // All but the log, and the log of the last 123 days, newest first, 13 numbers to a day; past the logged days it is
 // empty.
 #[derive(Drop)]
 pub struct Account {
     pub state: State,
-    pub log: [u64; 1599],
+    pub log: Log,
 }
 
 // A call on an account.
@@ -38,6 +39,8 @@ pub struct Opened {
 }
 
 // The same with all of the account but its log.
+// kept: beside `Opened`, as `StateApplied` of `state` beside `Applied`; a pair of any two would call neither part by its
+// name.
 #[derive(Clone, Copy)]
 pub struct StateOpened {
     pub answer: Verdict,
@@ -51,42 +54,40 @@ pub struct Applied {
     pub account: Account,
 }
 
+// What stands in an account where Open was refused: no such plan opens.
+pub const NO_PLAN: Plan = Plan {
+    form: Form::Prepaid,
+    start: 0,
+    pergb: 0,
+    perminute: 0,
+    persms: 0,
+    fee: 0,
+    volume: 0,
+};
+
 // Open, of all but the log, which is empty: refusals 1, 17, 18 and 2. A refused plan leaves an account that is not
 // sound.
+#[tactic(auto, using(crate::proofs::Parts::opens_payable), unfolding(crate::specs::Answers::open_answer, crate::specs::Whole::opened))]
 pub fn open_with(p: Plan) -> StateOpened
     ensures { result ≡ opened_parts (open_answer p) }
 {
-    let verdict = tariff::plans::check_plan(p);
-    match verdict {
-        Verdict::Accepted => StateOpened {
-            answer: Verdict::Accepted,
+    match tariff::plans::check_plan(p) {
+        Ok(()) => StateOpened {
+            answer: Ok(()),
             state: state::moves::opened_with(p),
         },
-        Verdict::Refused(n) => {
-            let form = Form::Prepaid;
-            let none = Plan {
-                form: form,
-                start: 0,
-                pergb: 0,
-                perminute: 0,
-                persms: 0,
-                fee: 0,
-                volume: 0,
-            };
-            StateOpened {
-                answer: Verdict::Refused(n),
-                state: state::moves::opened_with(none),
-            }
-        }
+        Err(r) => StateOpened {
+            answer: Err(r),
+            state: state::moves::opened_with(NO_PLAN),
+        },
     }
 }
 
-// Each call on all of an account but its log, with the log lent, 1,599 numbers: the methods and the replay of lists
-// share them, and the log stays where it is.
+// Each call on all of an account but its log, with the log lent: the methods and the replay of lists share them, and
+// the log stays where it is.
 
 // Is the account sound? Any values will do.
-pub fn parts_fit(state: State, log: &[u64]) -> bool
-    requires { length log.now ≡ 1599 }
+pub fn parts_fit(state: State, log: &Log) -> bool
     ensures { result ≡ sound (account_of state log.now) }
 {
     if !state::sound::counters_fit(state) {
@@ -98,174 +99,88 @@ pub fn parts_fit(state: State, log: &[u64]) -> bool
     presence::log::log_fits(log, state.today, state.logged, state.meters.lifetime)
 }
 
-// A registration on a sound account.
-fn register_sound(state: State, log: &[u64], p: Place) -> StateApplied
-    requires { (length log.now ≡ 1599) × (sound (account_of state log.now) ≡ true) }
-    ensures { result ≡ applied_state (applied (account_of state log.now) (Call.Register p)) }
+// A call that was accepted and answers nothing more.
+fn done(state: State) -> StateApplied
+    ensures { result ≡ record { answer = Ok Outcome.Done; state = state } }
 {
-    let next = state::moves::registered_at(state, p);
     StateApplied {
-        answer: Answer::Done,
-        state: next,
+        answer: Ok(Outcome::Done),
+        state,
     }
 }
 
-// Refusal 0.
-pub fn register_with(state: State, log: &[u64], p: Place) -> StateApplied
-    requires { length log.now ≡ 1599 }
+// kept: that the account is sound is a clause of each of these and of `call_sound`. A type for state and log would have
+// to stay true while a day change writes the log, and the promises would name its parts; with the clause they name the
+// account.
+
+// A registration on a sound account.
+fn register_sound(state: State, log: &Log, p: Place) -> StateApplied
+    requires { sound (account_of state log.now) ≡ true }
     ensures { result ≡ applied_state (applied (account_of state log.now) (Call.Register p)) }
 {
-    if !parts_fit(state, log) {
-        return StateApplied {
-            answer: Answer::Refused(0),
-            state: state,
-        };
-    }
-    register_sound(state, log, p)
+    done(state::moves::registered_at(state, p))
 }
 
 // A use on a sound account: refusals 3, 4, 5, 6.
-fn use_sound(state: State, log: &[u64], k: Kind, n: u64) -> StateApplied
-    requires { (length log.now ≡ 1599) × (sound (account_of state log.now) ≡ true) }
+fn use_sound(state: State, log: &Log, k: Kind, n: u64) -> StateApplied
+    requires { sound (account_of state log.now) ≡ true }
     ensures { result ≡ applied_state (applied (account_of state log.now) (Call.Use k n)) }
 {
     state::charging::use_of(state, k, n)
 }
 
-// Refusals 0, 3, 4, 5, 6.
-pub fn use_with(state: State, log: &[u64], k: Kind, n: u64) -> StateApplied
-    requires { length log.now ≡ 1599 }
-    ensures { result ≡ applied_state (applied (account_of state log.now) (Call.Use k n)) }
-{
-    if !parts_fit(state, log) {
-        return StateApplied {
-            answer: Answer::Refused(0),
-            state: state,
-        };
-    }
-    use_sound(state, log, k, n)
-}
-
 // A top-up of a sound account: refusals 7, 8.
-fn top_up_sound(state: State, log: &[u64], n: u64) -> StateApplied
-    requires { (length log.now ≡ 1599) × (sound (account_of state log.now) ≡ true) }
+fn top_up_sound(state: State, log: &Log, n: u64) -> StateApplied
+    requires { sound (account_of state log.now) ≡ true }
     ensures { result ≡ applied_state (applied (account_of state log.now) (Call.TopUp n)) }
 {
     if !state::charging::within(1, n, 10000000) {
-        return StateApplied {
-            answer: Answer::Refused(7),
-            state: state,
-        };
+        return state::declined(state, Refusal::TopUpSize);
     }
     if state.money.paid + n > 1000000000 {
-        return StateApplied {
-            answer: Answer::Refused(8),
-            state: state,
-        };
+        return state::declined(state, Refusal::PaidLimit);
     }
-    let next = state::moves::topped_by(state, n);
-    StateApplied {
-        answer: Answer::Done,
-        state: next,
-    }
-}
-
-// Refusals 0, 7, 8.
-pub fn top_up_with(state: State, log: &[u64], n: u64) -> StateApplied
-    requires { length log.now ≡ 1599 }
-    ensures { result ≡ applied_state (applied (account_of state log.now) (Call.TopUp n)) }
-{
-    if !parts_fit(state, log) {
-        return StateApplied {
-            answer: Answer::Refused(0),
-            state: state,
-        };
-    }
-    top_up_sound(state, log, n)
+    done(state::moves::topped_by(state, n))
 }
 
 // A day change of a sound account: refusal 9.
-fn next_day_sound(state: State, log: &mut [u64]) -> StateApplied
-    requires { (length log.old ≡ 1599) × (sound (account_of state log.old) ≡ true) }
+fn next_day_sound(state: State, log: &mut Log) -> StateApplied
+    requires { sound (account_of state log.old) ≡ true }
     ensures answer { result ≡ applied_state (applied (account_of state log.old) Call.NextDay) }
     ensures shifted { log.new ≡ (step (account_of state log.old) Call.NextDay).log }
 {
     if state.day >= 3833 {
-        return StateApplied {
-            answer: Answer::Refused(9),
-            state: state,
-        };
+        return state::declined(state, Refusal::LastDay);
     }
     presence::log::push(log, state.today);
-    let next = state::moves::next_from(state, log);
-    StateApplied {
-        answer: Answer::Done,
-        state: next,
-    }
-}
-
-// Refusals 0, 9.
-pub fn next_day_with(state: State, log: &mut [u64]) -> StateApplied
-    requires { length log.old ≡ 1599 }
-    ensures answer { result ≡ applied_state (applied (account_of state log.old) Call.NextDay) }
-    ensures shifted { log.new ≡ (step (account_of state log.old) Call.NextDay).log }
-{
-    if !parts_fit(state, log) {
-        return StateApplied {
-            answer: Answer::Refused(0),
-            state: state,
-        };
-    }
-    next_day_sound(state, log)
-}
-
-// The same with the log as an account holds it, an array, which may not be lent as a slice from where it is held.
-fn next_day_held(state: State, log: &mut [u64; 1599]) -> StateApplied
-    requires { length log.old ≡ 1599 }
-    ensures answer { result ≡ applied_state (applied (account_of state log.old) Call.NextDay) }
-    ensures shifted { log.new ≡ (step (account_of state log.old) Call.NextDay).log }
-{
-    next_day_with(state, log)
+    done(state::moves::next_from(state, log))
 }
 
 // Afford on a sound account: refusal 3.
-fn afford_sound(state: State, log: &[u64], k: Kind) -> Answer
-    requires { (length log.now ≡ 1599) × (sound (account_of state log.now) ≡ true) }
+fn afford_sound(state: State, log: &Log, k: Kind) -> Answer
+    requires { sound (account_of state log.now) ≡ true }
     ensures { result ≡ (applied (account_of state log.now) (Call.Afford k)).answer }
 {
-    let place = state.place;
-    if !presence::days::placed(place) {
-        return Answer::Refused(3);
+    if !presence::days::placed(state.place) {
+        return Err(Refusal::Unplaced);
     }
-    let n = afford::most_of(state, k);
-    Answer::UpTo(n)
+    Ok(Outcome::UpTo(afford::most_of(state, k)))
 }
 
 // Refusals 0, 3.
-pub fn afford_with(state: State, log: &[u64], k: Kind) -> Answer
-    requires { length log.now ≡ 1599 }
+pub fn afford_with(state: State, log: &Log, k: Kind) -> Answer
     ensures { result ≡ (applied (account_of state log.now) (Call.Afford k)).answer }
 {
     if !parts_fit(state, log) {
-        return Answer::Refused(0);
+        return Err(Refusal::Unsound);
     }
     afford_sound(state, log, k)
 }
 
-// Afford's answer, which changes nothing.
-fn afford_applied(state: State, x: Answer) -> StateApplied
-    ensures { result ≡ record { answer = x; state = state } }
-{
-    StateApplied {
-        answer: x,
-        state: state,
-    }
-}
-
 // One call of any kind on an account that is known to be sound, so that it need not be looked at again: every call
 // leaves it sound.
-pub fn call_sound(state: State, log: &mut [u64], c: Call) -> StateApplied
-    requires { (length log.old ≡ 1599) × (sound (account_of state log.old) ≡ true) }
+pub fn call_sound(state: State, log: &mut Log, c: Call) -> StateApplied
+    requires { sound (account_of state log.old) ≡ true }
     ensures answer { result ≡ applied_state (applied (account_of state log.old) c) }
     ensures shifted { log.new ≡ (step (account_of state log.old) c).log }
 {
@@ -274,47 +189,30 @@ pub fn call_sound(state: State, log: &mut [u64], c: Call) -> StateApplied
         Call::Use(k, n) => use_sound(state, log, k, n),
         Call::TopUp(n) => top_up_sound(state, log, n),
         Call::NextDay => next_day_sound(state, log),
-        Call::Afford(k) => afford_applied(state, afford_sound(state, log, k)),
+        Call::Afford(k) => StateApplied {
+            answer: afford_sound(state, log, k),
+            state,
+        },
     }
 }
 
-// One call of any kind.
-pub fn call_with(state: State, log: &mut [u64], c: Call) -> StateApplied
-    requires { length log.old ≡ 1599 }
+// One call of any kind: refusal 0, then its own.
+pub fn call_with(state: State, log: &mut Log, c: Call) -> StateApplied
     ensures answer { result ≡ applied_state (applied (account_of state log.old) c) }
     ensures shifted { log.new ≡ (step (account_of state log.old) c).log }
 {
     if !parts_fit(state, log) {
-        return StateApplied {
-            answer: Answer::Refused(0),
-            state: state,
-        };
+        return state::declined(state, Refusal::Unsound);
     }
     call_sound(state, log, c)
-}
-
-// The same with the log as an account holds it.
-fn call_held(state: State, log: &mut [u64; 1599], c: Call) -> StateApplied
-    requires { length log.old ≡ 1599 }
-    ensures answer { result ≡ applied_state (applied (account_of state log.old) c) }
-    ensures shifted { log.new ≡ (step (account_of state log.old) c).log }
-{
-    call_with(state, log, c)
 }
 
 // One call of any kind on a whole account.
 pub fn apply(mut a: Account, c: Call) -> Applied
     ensures { result ≡ applied a c }
 {
-    let state = a.state;
-    let done = call_held(state, &mut a.log, c);
-    let answer = done.answer;
-    let next = done.state;
-    a.state = next;
-    Applied {
-        answer: answer,
-        account: a,
-    }
+    let answer = a.make(c);
+    Applied { answer, account: a }
 }
 
 impl Account {
@@ -323,16 +221,12 @@ impl Account {
         ensures { result ≡ open_answer p }
     {
         let opened = open_with(p);
-        let answer = opened.answer;
-        let state = opened.state;
-        let log = presence::log::log_empty();
-        let account = Account {
-            state: state,
-            log: log,
-        };
         Opened {
-            answer: answer,
-            account: account,
+            answer: opened.answer,
+            account: Account {
+                state: opened.state,
+                log: presence::log::log_empty(),
+            },
         }
     }
 
@@ -340,21 +234,29 @@ impl Account {
     pub fn is_sound(self) -> bool
         ensures { result ≡ sound self }
     {
-        let state = self.state;
-        parts_fit(state, &self.log)
+        parts_fit(self.state, &self.log)
     }
+
+    // One call of any kind, made where the account lies, so that it is not copied.
+    fn make(&mut self, c: Call) -> Answer
+        ensures answer { result ≡ (applied self.old c).answer }
+        ensures after { self.new ≡ (applied self.old c).account }
+    {
+        let done = call_with(self.state, &mut self.log, c);
+        self.state = done.state;
+        done.answer
+    }
+
+    // kept: each of the five makes its call where the account lies. Through `apply`, in a line each, a use took 12,115
+    // instructions and not 8,810, since the account was copied twice more.
 
     // Refusal 0.
     pub fn register(mut self, p: Place) -> Applied
         ensures { result ≡ applied self (Call.Register p) }
     {
-        let state = self.state;
-        let done = register_with(state, &self.log, p);
-        let answer = done.answer;
-        let next = done.state;
-        self.state = next;
+        let answer = self.make(Call::Register(p));
         Applied {
-            answer: answer,
+            answer,
             account: self,
         }
     }
@@ -363,13 +265,9 @@ impl Account {
     pub fn use_units(mut self, k: Kind, n: u64) -> Applied
         ensures { result ≡ applied self (Call.Use k n) }
     {
-        let state = self.state;
-        let done = use_with(state, &self.log, k, n);
-        let answer = done.answer;
-        let next = done.state;
-        self.state = next;
+        let answer = self.make(Call::Use(k, n));
         Applied {
-            answer: answer,
+            answer,
             account: self,
         }
     }
@@ -378,13 +276,9 @@ impl Account {
     pub fn top_up(mut self, n: u64) -> Applied
         ensures { result ≡ applied self (Call.TopUp n) }
     {
-        let state = self.state;
-        let done = top_up_with(state, &self.log, n);
-        let answer = done.answer;
-        let next = done.state;
-        self.state = next;
+        let answer = self.make(Call::TopUp(n));
         Applied {
-            answer: answer,
+            answer,
             account: self,
         }
     }
@@ -393,13 +287,9 @@ impl Account {
     pub fn next_day(mut self) -> Applied
         ensures { result ≡ applied self Call.NextDay }
     {
-        let state = self.state;
-        let done = next_day_held(state, &mut self.log);
-        let answer = done.answer;
-        let next = done.state;
-        self.state = next;
+        let answer = self.make(Call::NextDay);
         Applied {
-            answer: answer,
+            answer,
             account: self,
         }
     }
@@ -408,10 +298,9 @@ impl Account {
     pub fn afford(mut self, k: Kind) -> Applied
         ensures { result ≡ applied self (Call.Afford k) }
     {
-        let state = self.state;
-        let answer = afford_with(state, &self.log, k);
+        let answer = self.make(Call::Afford(k));
         Applied {
-            answer: answer,
+            answer,
             account: self,
         }
     }

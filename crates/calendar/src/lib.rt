@@ -3,8 +3,8 @@
 
 pub mod claims;
 
-ghost use Rattle.std.specs.Prelude.{◌≡◌, ◌<◌};
-ghost use Rattle.calendar.specs.Calendar.{first_day, starts_month};
+ghost use Rattle.std.specs.Prelude.{◌≡◌};
+ghost use Rattle.calendar.specs.Calendar.{starts_month};
 
 // The first day of each month from January 2022 to December 2032.
 const MONTH_STARTS: [u64; 132] = [
@@ -18,26 +18,16 @@ const MONTH_STARTS: [u64; 132] = [
     3591, 3621, 3652, 3683, 3712, 3743, 3773, 3804, 3834, 3865, 3896, 3926, 3957, 3987,
 ];
 
-// The first day of a month, counted from January 2022.
-fn month_start(month: usize) -> u64
-    requires { month < 132 }
-    ensures { result ≡ first_day month }
-{
-    MONTH_STARTS[month]
-}
-
 // Is the day the first of a month? No month has more than 31 days, so each of the first `day / 31` months begins before
 // the day. The search starts after them, and ends at the first month that does not begin before the day.
 pub fn starts_month(day: u64) -> bool
     ensures { result ≡ starts_month day }
 {
-    let mut month = (day / 31) as usize;
-    while month < 132 {
-        let first = month_start(month);
+    for month in (day / 31) as usize..132 {
+        let first = MONTH_STARTS[month];
         if first >= day {
             return first == day;
         }
-        month += 1;
     }
     false
 }

@@ -1,16 +1,20 @@
 -- What a pass over the cards finds. Assumes nothing.
 use mathlib.Core.Path.{◌≡◌, refl, sym, ◌∙◌, ap}
-use mathlib.Core.Bool.{Bool, true, false, ◌&&◌}
+use mathlib.Core.Bool.{not, ◌&&◌}
 use mathlib.Core.List.{List, [], ◌∷◌}
 use Prim.Native.Nat.{ℕ, zero, suc, ◌+◌, ◌-◌, ◌≤◌, ◌<◌, min}
 use native.Mathlib.Nat.{zero-add, add-zero}
-use native.Mathlib.Numerals.{add-one}
 use native.Mathlib.Omega.{arith}
-use lib.ListN.{length, get_or, drop, drop_of_length-le}
-use lib.Seq.{drop-cons}
+use lib.ListN.{length, get_or}
+use Rattle.std.specs.Prelude.{Option, Some, None, is_none, slice_get, unwrap_or}
+use Rattle.std.specs.Option.{option_or}
+use Rattle.std.proofs.Math.Bool.{and-true, and_assoc}
+use Rattle.std.proofs.Math.Dec.{eqb-suc-zero}
+use Rattle.std.proofs.lemmas.Bool.{cases_lt}
+use mathlib.Core.Logic.{◌⊎◌, inl, inr}
+use Rattle.std.proofs.lemmas.Option.{slice_get-get_or, slice_get_past, unwrap_or-slice_get}
 use lib.Dec.{ltb}
-use borrow.Author.Tests.{ltb-true, lt-ltb, le-ltb}
-use Rattle.tariff.proofs.Tests.{bool_ext}
+use borrow.Author.Tests.{lt-ltb, le-ltb}
 use Rattle.tariff.proofs.Sums.{⊕-assoc}
 use Rattle.tariff.specs.declared.Units.{Units}
 use Rattle.tariff.specs.Units.{each, zero_units, ◌⊕◌, AtMost}
@@ -19,25 +23,8 @@ use Rattle.cards.specs.declared.Survey.{Survey}
 use Rattle.cards.specs.Cards.{no_card, cards_units, allowance_fits, allowances_fit, card_sound, cards_sound, used, use_at}
 use Rattle.cards.specs.Survey.{start, held_sum, survey_with, survey_of, held_used}
 
--- one card of a list, and its end
-pub survey_step : (s : Survey) (cs : List Card) (i : ℕ) → i < length cs → survey_of s (drop i cs) ≡ survey_of (survey_with s (get_or cs i no_card)) (drop (i + 1) cs)
-unfolding survey_of
-survey_step s cs i l = rw (drop-cons cs i no_card l, add-one i) refl
-
-pub survey_end : (s : Survey) (cs : List Card) (i : ℕ) → length cs ≤ i → survey_of s (drop i cs) ≡ s
-unfolding survey_of
-survey_end s cs i l = ap (survey_of s) (drop_of_length-le cs l)
-
 ⊕-none : (u : Units) → u ⊕ zero_units ≡ u
 ⊕-none u = simp add-zero
-
-and-true : (b : Bool) → (b && true) ≡ b
-and-true true = refl
-and-true false = refl
-
-and_assoc : (a b c : Bool) → (a && b && c) ≡ (a && (b && c))
-and_assoc true b c = refl
-and_assoc false b c = refl
 
 -- sums held at a ceiling on the way are the sum so held at the end
 held_twice : (x y z : ℕ) → min (min (x + y) 1000000000001 + z) 1000000000001 ≡ min (x + (y + z)) 1000000000001
@@ -78,53 +65,43 @@ ordered_from s (c ∷ cs) = ordered_from (survey_with s c) cs ∙ and_assoc s.or
 pub ordered_is : (i : ℕ) (cs : List Card) → (survey_of (start i) cs).ordered ≡ cards_sound cs
 ordered_is i cs = ordered_from (start i) cs
 
-found_from : (s : Survey) (cs : List Card) → s.found ≡ true → (survey_of s cs).card ≡ s.card
-unfolding survey_of survey_with
-found_from s [] e = refl
-found_from s (c ∷ cs) e = found_from (survey_with s c) cs (rw e refl) ∙ rw e refl
+suc-sub-one : (n : ℕ) → suc n - 1 ≡ n
+suc-sub-one n = omega arith
 
-card_from : (s : Survey) (cs : List Card) → s.found ≡ false → s.card ≡ no_card → (survey_of s cs).card ≡ get_or cs s.ahead no_card
+card_from : (s : Survey) (cs : List Card) → (survey_of s cs).card ≡ option_or s.card (slice_get cs s.ahead)
 unfolding survey_of survey_with
-card_from s [] e f = f
-card_from s (c ∷ cs) e f = go s.ahead refl (λ p q. card_from (survey_with s c) cs p q)
+card_from s [] = go s.card
   where
-    go : (n : ℕ) → s.ahead ≡ n
-        → ((survey_with s c).found ≡ false → (survey_with s c).card ≡ no_card → (survey_of (survey_with s c) cs).card ≡ get_or cs (survey_with s c).ahead no_card)
-        → (survey_of (survey_with s c) cs).card ≡ get_or (c ∷ cs) s.ahead no_card
-    go zero h ih = found_from (survey_with s c) cs (rw (e, h) refl) ∙ rw (e, h) refl
-    go (suc n) h ih =
-        let l = lt-ltb 0 (suc n) (omega arith) in
-        let k : suc n - 1 ≡ n = omega arith in
-        ih (rw (e, h, l) refl) (rw (e, h, l) f) ∙ rw (e, h, l, k) refl
-
--- the card at place i
-pub card_is : (i : ℕ) (cs : List Card) → (survey_of (start i) cs).card ≡ get_or cs i no_card
-card_is i cs = card_from (start i) cs refl refl
-
-ltb_ext : (a b c d : ℕ) → (a < b → c < d) → (c < d → a < b) → ltb a b ≡ ltb c d
-ltb_ext a b c d p q = bool_ext _ _ (λ e. lt-ltb c d (p (ltb-true a b e))) (λ e. lt-ltb a b (q (ltb-true c d e)))
-
-stays_found : (s : Survey) (cs : List Card) → s.found ≡ true → (survey_of s cs).found ≡ true
-unfolding survey_of survey_with
-stays_found s [] e = e
-stays_found s (c ∷ cs) e = stays_found (survey_with s c) cs (rw e refl)
-
-found_when : (s : Survey) (cs : List Card) → s.found ≡ false → (survey_of s cs).found ≡ ltb s.ahead (length cs)
-unfolding survey_of survey_with
-found_when s [] e = e ∙ sym (le-ltb s.ahead 0 (omega arith))
-found_when s (c ∷ cs) e = go s.ahead refl (λ p. found_when (survey_with s c) cs p)
+    go : (o : Option Card) → o ≡ option_or o None
+    go None = refl
+    go (Some d) = refl
+card_from s (c ∷ cs) = go s.card s.ahead refl refl (card_from (survey_with s c) cs)
   where
-    go : (n : ℕ) → s.ahead ≡ n → ((survey_with s c).found ≡ false → (survey_of (survey_with s c) cs).found ≡ ltb (survey_with s c).ahead (length cs))
-        → (survey_of (survey_with s c) cs).found ≡ ltb s.ahead (length (c ∷ cs))
-    go zero h ih = stays_found (survey_with s c) cs (rw (e, h) refl) ∙ rw h (sym (lt-ltb 0 (suc (length cs)) (omega arith)))
-    go (suc n) h ih =
-        let l = lt-ltb 0 (suc n) (omega arith) in
-        let k : suc n - 1 ≡ n = omega arith in
-        ih (rw (e, h, l) refl) ∙ rw (e, h, l, k) (ltb_ext n (length cs) (suc n) (suc (length cs)) (λ p. omega arith) (λ p. omega arith))
+    go : (o : Option Card) (n : ℕ) → s.card ≡ o → s.ahead ≡ n
+        → (survey_of (survey_with s c) cs).card ≡ option_or (survey_with s c).card (slice_get cs (survey_with s c).ahead)
+        → (survey_of (survey_with s c) cs).card ≡ option_or s.card (slice_get (c ∷ cs) s.ahead)
+    go (Some d) n e h ih = ih ∙ rw e refl
+    go None zero e h ih = ih ∙ rw (e, h) refl
+    go None (suc n) e h ih = ih ∙ rw (e, h, eqb-suc-zero n, suc-sub-one n) refl
 
--- is there a card at place i?
-pub found_is : (i : ℕ) (cs : List Card) → (survey_of (start i) cs).found ≡ ltb i (length cs)
-found_is i cs = found_when (start i) cs refl
+-- the card at place i, if there is one
+pub card_is : (i : ℕ) (cs : List Card) → (survey_of (start i) cs).card ≡ slice_get cs i
+card_is i cs = card_from (start i) cs
+
+-- what is read of it
+pub read_is : (i : ℕ) (cs : List Card) → unwrap_or (survey_of (start i) cs).card no_card ≡ get_or cs i no_card
+read_is i cs = rw (card_is i cs) (unwrap_or-slice_get cs i no_card)
+
+is_none-slice_get : (cs : List Card) (i : ℕ) → is_none (slice_get cs i) ≡ not (ltb i (length cs))
+is_none-slice_get cs i = go (cases_lt i (length cs))
+  where
+    go : (i < length cs) ⊎ (length cs ≤ i) → is_none (slice_get cs i) ≡ not (ltb i (length cs))
+    go (inl h) = rw (slice_get-get_or cs i no_card h, lt-ltb i (length cs) h) refl
+    go (inr h) = rw (slice_get_past cs i h, le-ltb i (length cs) h) refl
+
+-- is there no card at place i?
+pub absent_is : (i : ℕ) (cs : List Card) → is_none (survey_of (start i) cs).card ≡ not (ltb i (length cs))
+absent_is i cs = ap is_none (card_is i cs) ∙ is_none-slice_get cs i
 
 held_same : (x y : ℕ) → x + y ≤ 1000000000000 → min (x + y) 1000000000001 ≡ x + y
 held_same x y h = omega arith

@@ -1,12 +1,15 @@
 -- What inner functions find in one pass over the cards, and how they tell what becomes of them. No contract of an entry
 -- point cites these definitions: proofs/Passes ties them to those of `Cards`. Assumes nothing.
-use Rattle.std.specs.Prelude.{ℕ, ◌+◌, ◌-◌, min, Bool, true, false, cond, ◌&&◌, List, [], ◌∷◌, map, ltb, set}
+use Rattle.std.specs.Prelude.{ℕ, ◌+◌, ◌-◌, min, true, cond, ◌&&◌, Option, Some, None, is_some, List, map, fold, eqb, set}
+use Rattle.std.specs.Option.{option_or}
 use Rattle.tariff.specs.declared.Units.{Units}
 use Rattle.tariff.specs.Units.{each, zero_units}
 use Rattle.cards.specs.declared.Card.{Card}
 use Rattle.cards.specs.declared.Survey.{Survey}
 use Rattle.cards.specs.declared.Change.{Change}
-use Rattle.cards.specs.Cards.{no_card, allowance_fits, card_sound, cleared, fresh}
+use Rattle.cards.specs.declared.Renewal.{Renewal}
+use Rattle.cards.specs.declared.Renewal.TheVariants.{Month, Life}
+use Rattle.cards.specs.Cards.{allowance_fits, card_sound, cleared, fresh}
 
 -- aid: no card yet, and the one at place i is looked for
 abbrev pub start : ℕ → Survey
@@ -16,8 +19,7 @@ start i = record {
   ordered = true;
   allowed = true;
   ahead = i;
-  found = false;
-  card = no_card;
+  card = None;
 }
 
 -- aid: a sum held at 1,000,000,000,001, one more than a sound account's lifetime units
@@ -35,15 +37,13 @@ survey_with s c = record {
   total = held_sum s.total c.lifetime;
   ordered = s.ordered && card_sound c;
   allowed = s.allowed && allowance_fits c.allowance;
-  ahead = cond s.found s.ahead (cond (ltb 0 s.ahead) (s.ahead - 1) 0);
-  found = cond s.found true (cond (ltb 0 s.ahead) false true);
-  card = cond s.found s.card (cond (ltb 0 s.ahead) s.card c);
+  ahead = cond (is_some s.card) s.ahead (s.ahead - 1);
+  card = option_or s.card (cond (eqb s.ahead 0) (Some c) None);
 }
 
 -- aid: all cards of a list
 unfoldable pub survey_of : Survey → List Card → Survey
-survey_of s [] = s
-survey_of s (c ∷ cs) = survey_of (survey_with s c) cs
+survey_of s cs = fold survey_with s cs
 
 -- aid: a card after a use, its sums held; in a sound box it is `used`
 abbrev pub held_used : Card → Units → Card
@@ -53,11 +53,16 @@ held_used c u = record {
   allowance = c.allowance;
 }
 
--- aid: a card at the beginning of its life or of a month
-abbrev pub renewed : Bool → Card → Card
-renewed anew c = cond anew (fresh c) (cleared c)
+-- aid: a card at the beginning of a month or of its life
+abbrev pub renewed : Renewal → Card → Card
+renewed Month c = cleared c
+renewed Life c = fresh c
+
+-- aid: all cards renewed, or none
+abbrev pub renewed_by : Option Renewal → List Card → List Card
+renewed_by None cs = cs
+renewed_by (Some r) cs = map (renewed r) cs
 
 -- aid: what becomes of a list of cards
 unfoldable pub changed : Change → List Card → List Card
-changed h cs = cond h.renews
-    (map (renewed h.anew) (set cs h.place h.card)) (set cs h.place h.card)
+changed h cs = renewed_by h.renewal (set cs h.place h.card)

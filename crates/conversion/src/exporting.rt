@@ -3,10 +3,10 @@ ghost use Rattle.std.specs.Prelude.{◌≡◌, ◌≤◌, ◌/◌, length};
 ghost use Rattle.text.specs.Text.{placed};
 ghost use Rattle.tripfile.specs.Bodies.{calls_in, codes_of, numbers_of};
 ghost use Rattle.textlines.specs.Text.{exported_of, buffer_of};
-ghost use Rattle.conversion.specs.Conversion.{told_text, export_of, export_buffer};
+ghost use Rattle.conversion.specs.Conversion.{export_of, export_buffer};
 
-use super::Exported;
-use tripfile::{Read, Written};
+use super::ExportError;
+use tariff::Refusal;
 
 // Puts the codes and the numbers of the calls of a calls section at the start of the lists.
 fn split_calls(section: &[u8], codes: &mut [u32], numbers: &mut [u32])
@@ -14,17 +14,15 @@ fn split_calls(section: &[u8], codes: &mut [u32], numbers: &mut [u32])
     ensures first { codes.new ≡ placed codes.old 0 (codes_of (calls_in section.now)) }
     ensures second { numbers.new ≡ placed numbers.old 0 (numbers_of (calls_in section.now)) }
 {
-    let n = section.len() / 8;
-    let mut i = 0;
-    while i < n {
+    for i in 0..section.len() / 8 {
         codes[i] = words::word_at(section, 2 * i);
         numbers[i] = words::word_at(section, 2 * i + 1);
-        i += 1;
     }
 }
 
 // The text of the calls of a calls section into the buffer.
-fn export_section(section: &[u8], buf: &mut [u8]) -> Written
+// kept: two arrays, since what is exported are the two lists that the C interface lends.
+fn export_section(section: &[u8], buf: &mut [u8]) -> Result<usize, Refusal>
     requires { length section.now / 8 ≤ 8184 }
     ensures answer { result ≡ exported_of (codes_of (calls_in section.now))
         (numbers_of (calls_in section.now)) buf.old }
@@ -38,25 +36,14 @@ fn export_section(section: &[u8], buf: &mut [u8]) -> Written
     textlines::export::export(&codes[..n], &numbers[..n], buf)
 }
 
-// What the text's own answer is told as.
-fn told(w: Written) -> Exported
-    ensures { result ≡ told_text w }
-{
-    match w {
-        Written::Bytes(n) => Exported::Bytes(n),
-        Written::Refused(n) => Exported::Refused(n),
-    }
-}
-
-// The text of the calls of a file into the buffer, or what declines it, with every byte as it was: the number of a bad
-// file, then 21, 16.
-pub fn export_file(file: &[u8], buf: &mut [u8]) -> Exported
+// The text of the calls of a file into the buffer, or what declines it, with every byte as it was: why a file is bad,
+// then 21, 16.
+pub fn export_file(file: &[u8], buf: &mut [u8]) -> Result<usize, ExportError>
     ensures answer { result ≡ export_of file.now buf.old }
     ensures buffer { buf.new ≡ export_buffer file.now buf.old }
 {
-    let read = tripfile::reading::read(file);
-    match read {
-        Read::Trip { plan: _, calls: _ } => told(export_section(sections::find(file, 2), buf)),
-        Read::Refused(n) => Exported::File(n),
+    match tripfile::reading::read(file) {
+        Ok(_) => export_section(sections::find(file, 2), buf).map_err(|r| ExportError::Text(r)),
+        Err(r) => Err(ExportError::File(r)),
     }
 }

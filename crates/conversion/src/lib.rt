@@ -2,25 +2,39 @@
 // lines-12).
 #![tactic(auto)]
 
+ghost use Rattle.std.specs.Prelude.{◌≡◌};
+ghost use Rattle.conversion.specs.Errors.{declined_text};
+
 pub mod claims;
 pub mod exporting;
 pub mod importing;
 
-// What exporting the calls of a file answers: the length of the text; the number of a bad file; or the number that
-// declines the text.
-#[derive(Clone, Copy)]
-pub enum Exported {
-    Bytes(usize),
-    File(u64),
-    Refused(u64),
+use tariff::Refusal;
+use textlines::TextError;
+
+// Why the calls of a file are not exported: the file is bad, or their text is declined.
+#[derive(Clone, Copy, PartialEq, Eq)]
+pub enum ExportError {
+    File(Refusal),
+    Text(Refusal),
 }
 
-// What importing a text answers: the length of the file; the number, from 1, of the first line that is not of the form
-// (22); another number that declines the text; or the number that declines the writing.
-#[derive(Clone, Copy)]
-pub enum Imported {
-    Bytes(usize),
+// Why a text is not imported: the number, from 1, of the first line that is not of the form (22), another refusal of
+// the text, or one of the writing.
+#[derive(Clone, Copy, PartialEq, Eq)]
+pub enum ImportError {
     BadLine(usize),
-    Text(u64),
-    Refused(u64),
+    Text(Refusal),
+    Writing(Refusal),
+}
+
+impl From<TextError> for ImportError {
+    ghost from_gives = { λ e r. r ≡ declined_text e };
+
+    fn from(e: TextError) -> ImportError {
+        match e {
+            TextError::BadLine(k) => ImportError::BadLine(k),
+            TextError::Refused(r) => ImportError::Text(r),
+        }
+    }
 }

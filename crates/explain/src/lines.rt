@@ -1,101 +1,127 @@
 // The lines that are printed: a call with its answer, and the account after it.
 use account::Call;
 use presence::Location;
-use state::{Answer, Charge, State};
-use std::io;
+use state::{Answer, Outcome, State};
+use std::{fmt, io};
 use tariff::{Allowance, Kind, Place};
 
-fn place(p: Place) -> &'static str {
-    match p {
-        Place::Home => "home",
-        Place::Zone => "zone",
-        Place::Elsewhere => "elsewhere",
+// A place by its name.
+#[derive(Drop)]
+struct Name(Place);
+
+impl fmt::Display for Name {
+    fn fmt<W: fmt::Write>(&self, f: &mut fmt::Formatter<W>) -> fmt::Result {
+        f.write_str(match self.0 {
+            Place::Home => "home",
+            Place::Zone => "zone",
+            Place::Elsewhere => "elsewhere",
+        })
     }
 }
 
-fn location(l: Location) -> &'static str {
-    match l {
-        Location::Nowhere => "none",
-        Location::At(p) => place(p),
+// Where the hotspot is, or `none`.
+#[derive(Drop)]
+struct Where(Location);
+
+impl fmt::Display for Where {
+    fn fmt<W: fmt::Write>(&self, f: &mut fmt::Formatter<W>) -> fmt::Result {
+        match self.0 {
+            Some(place) => write!(f, "{}", Name(place)),
+            None => f.write_str("none"),
+        }
     }
 }
 
-fn limit(rt: &impl Print, l: Allowance) -> io::Result<()> {
-    match l {
-        Allowance::NoLimit => print!(rt; ", limit none"),
-        Allowance::Kilobytes(n) => print!(rt; ", limit {n}"),
+// The limit's kB, or `none`.
+#[derive(Drop)]
+struct Limit(Allowance);
+
+impl fmt::Display for Limit {
+    fn fmt<W: fmt::Write>(&self, f: &mut fmt::Formatter<W>) -> fmt::Result {
+        match self.0 {
+            Some(n) => write!(f, "{n}"),
+            None => f.write_str("none"),
+        }
     }
 }
 
 // A use's kind, as it stands before the units.
-fn use_name(k: Kind) -> &'static str {
-    match k {
-        Kind::Data => "data",
-        Kind::Outgoing => "out",
-        Kind::Incoming => "in",
-        Kind::Sms => "sms",
-    }
-}
+#[derive(Drop)]
+struct Use(Kind);
 
-fn unit(k: Kind) -> &'static str {
-    match k {
-        Kind::Data => " kB",
-        Kind::Outgoing => " s",
-        Kind::Incoming => " s",
-        Kind::Sms => " SMS",
-    }
-}
-
-// The unit of the call's kind, if it is a use.
-fn unit_of(c: Call) -> &'static str {
-    match c {
-        Call::Use(k, _) => unit(k),
-        _ => "",
+impl fmt::Display for Use {
+    fn fmt<W: fmt::Write>(&self, f: &mut fmt::Formatter<W>) -> fmt::Result {
+        f.write_str(match self.0 {
+            Kind::Data => "data",
+            Kind::Outgoing => "out",
+            Kind::Incoming => "in",
+            Kind::Sms => "sms",
+        })
     }
 }
 
 // A call: its name, and its place, units or amount.
-pub fn call(rt: &impl Print, c: Call) -> io::Result<()> {
-    match c {
-        Call::Register(p) => print!(rt; "register {}", place(p)),
-        Call::Use(k, n) => print!(rt; "{} {n}", use_name(k)),
-        Call::TopUp(n) => print!(rt; "topup {n}"),
-        Call::NextDay => print!(rt; "nextday"),
-        Call::Afford(_) => print!(rt; "afford"),
-    }
-}
+#[derive(Drop)]
+struct Made(Call);
 
-// What an accepted use took, for what, and whether the limit was reached by it.
-fn charge(rt: &impl Print, c: Call, x: Charge) -> io::Result<()> {
-    let unit = unit_of(c);
-    let notice = if x.notice { ", notice" } else { "" };
-    print!(rt;
-        ", home {}, extra {}, charged {}{unit}, surcharged {}{unit}{notice}",
-        x.home, x.extra, x.charged, x.surcharged
-    )
-}
-
-// The answer to a call, up to the end of its line.
-pub fn answer(rt: &impl Print, c: Call, x: Answer) -> io::Result<()> {
-    match x {
-        Answer::Done => print!(rt; ": accepted")?,
-        Answer::Charged(taken) => {
-            print!(rt; ": accepted")?;
-            charge(rt, c, taken)?;
+impl fmt::Display for Made {
+    fn fmt<W: fmt::Write>(&self, f: &mut fmt::Formatter<W>) -> fmt::Result {
+        match self.0 {
+            Call::Register(place) => write!(f, "register {}", Name(place)),
+            Call::Use(kind, n) => write!(f, "{} {n}", Use(kind)),
+            Call::TopUp(n) => write!(f, "topup {n}"),
+            Call::NextDay => f.write_str("nextday"),
+            Call::Afford(_) => f.write_str("afford"),
         }
-        Answer::UpTo(n) => print!(rt; ": up to {n}")?,
-        Answer::Refused(n) => print!(rt; ": refused {n}")?,
     }
-    println!(rt; "")
+}
+
+// The unit of the call's kind with a space before it, if it is a use.
+fn unit_of(c: Call) -> &'static str {
+    match c {
+        Call::Use(Kind::Data, _) => " kB",
+        Call::Use(Kind::Outgoing | Kind::Incoming, _) => " s",
+        Call::Use(Kind::Sms, _) => " SMS",
+        _ => "",
+    }
+}
+
+// What is answered to a call: for an accepted use what it took, for what, and whether the limit was reached by it.
+#[derive(Drop)]
+struct Told(Call, Answer);
+
+impl fmt::Display for Told {
+    fn fmt<W: fmt::Write>(&self, f: &mut fmt::Formatter<W>) -> fmt::Result {
+        match self.1 {
+            Ok(Outcome::Done) => f.write_str("accepted"),
+            Ok(Outcome::Charged(taken)) => {
+                let unit = unit_of(self.0);
+                let notice = if taken.notice { ", notice" } else { "" };
+                write!(
+                    f,
+                    "accepted, home {}, extra {}, charged {}{unit}, surcharged {}{unit}{notice}",
+                    taken.home, taken.extra, taken.charged, taken.surcharged
+                )
+            }
+            Ok(Outcome::UpTo(n)) => write!(f, "up to {n}"),
+            Err(refusal) => write!(f, "refused {refusal}"),
+        }
+    }
+}
+
+// A call, the i-th, with its answer.
+pub fn call(rt: &impl Print, i: usize, c: Call, answer: Answer) -> io::Result<()> {
+    println!(rt; "{i} {}: {}", Made(c), Told(c, answer))
 }
 
 // The account after a call, in a line of its own.
 pub fn after(rt: &impl Print, s: State) -> io::Result<()> {
-    let place = location(s.place);
-    print!(rt;
-        "    day {}, place {place}, credit {}",
-        s.day, s.money.credit
-    )?;
-    limit(rt, s.quota.allowance)?;
-    println!(rt; ", roamed {}", s.quota.roamed)
+    println!(rt;
+        "    day {}, place {}, credit {}, limit {}, roamed {}",
+        s.day,
+        Where(s.place),
+        s.money.credit,
+        Limit(s.quota.allowance),
+        s.quota.roamed
+    )
 }

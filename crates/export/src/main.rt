@@ -3,7 +3,7 @@
 // words of a number.
 #![tactic(auto)]
 
-use conversion::Exported;
+use conversion::ExportError;
 use std::io;
 
 fn main(rt: HostRuntime) -> io::Result<()> {
@@ -12,15 +12,14 @@ fn main(rt: HostRuntime) -> io::Result<()> {
     let n = intake::read_start(&mut rt.stdin(), &mut file)?;
     // Room for every text, so that 16 is never told.
     let mut text = [0u8; 65536];
-    let exported = conversion::exporting::export_file(&file[..n], &mut text);
-    match exported {
-        Exported::Bytes(k) => {
+    match conversion::exporting::export_file(&file[..n], &mut text) {
+        Ok(k) => {
             if rt.write_all(&text[..k]).is_err() {
                 eprintln!(rt; "export: cannot write the text")?;
             }
             Ok(())
         }
-        Exported::File(number) => eprintln!(rt; "file {number}"),
-        Exported::Refused(number) => eprintln!(rt; "text {number}"),
+        Err(ExportError::File(refusal)) => eprintln!(rt; "file {refusal}"),
+        Err(ExportError::Text(refusal)) => eprintln!(rt; "text {refusal}"),
     }
 }

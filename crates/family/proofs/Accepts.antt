@@ -8,6 +8,7 @@ use lib.ListN.{length, get_or}
 use borrow.Author.Tests.{eqb-true, ltb-true, not-false}
 use Rattle.tariff.specs.declared.Units.{Units}
 use Rattle.tariff.specs.declared.Kind.{Kind}
+use Rattle.tariff.specs.Refusal.{refusal_number}
 use Rattle.tariff.specs.Tests.{Reason, because, verdict_of, is_accepted}
 use Rattle.tariff.specs.Units.{only, ◌⊕◌, AtMost}
 use Rattle.tariff.proofs.Tests.{and_left, and_right, first_fails, rest_accepts, accepts_cons}
@@ -21,12 +22,13 @@ use Rattle.cards.specs.Cards.{no_card, cards_units, cards_sound}
 use Rattle.family.specs.declared.BoxCall.{BoxCall}
 use Rattle.family.specs.declared.BoxCall.TheVariants.{Register, Use, TopUp, NextDay, Afford}
 use Rattle.family.specs.Box.{Box, plain, same_units, box_sound, no_such_card, beyond, before, with_allowance, box_reasons, box_verdict, box_accepts}
+use Rattle.tariff.specs.declared.Refusal.TheVariants.{CardAllowance}
 
 -- a reason put among others: it does not hold, and the others accept
 pub before_fails : (m : ℕ) (r : Reason) (rs : List Reason) → is_accepted (verdict_of (before m r rs)) ≡ true → r.holds ≡ false
 unfolding before
 before_fails m r [] e = first_fails r [] e
-before_fails m r (x ∷ xs) e = go (eqb x.number m) e (before_fails m r xs)
+before_fails m r (x ∷ xs) e = go (eqb (refusal_number x.refusal) m) e (before_fails m r xs)
   where
     go : (b : Bool) → is_accepted (verdict_of (cond b (r ∷ x ∷ xs) (x ∷ before m r xs))) ≡ true → (is_accepted (verdict_of (before m r xs)) ≡ true → r.holds ≡ false) → r.holds ≡ false
     go true f ih = first_fails r (x ∷ xs) f
@@ -35,7 +37,7 @@ before_fails m r (x ∷ xs) e = go (eqb x.number m) e (before_fails m r xs)
 pub others_accept : (m : ℕ) (r : Reason) (rs : List Reason) → is_accepted (verdict_of (before m r rs)) ≡ true → is_accepted (verdict_of rs) ≡ true
 unfolding before
 others_accept m r [] e = rest_accepts r [] e
-others_accept m r (x ∷ xs) e = go (eqb x.number m) e (others_accept m r xs)
+others_accept m r (x ∷ xs) e = go (eqb (refusal_number x.refusal) m) e (others_accept m r xs)
   where
     go : (b : Bool) → is_accepted (verdict_of (cond b (r ∷ x ∷ xs) (x ∷ before m r xs))) ≡ true
         → (is_accepted (verdict_of (before m r xs)) ≡ true → is_accepted (verdict_of xs) ≡ true) → is_accepted (verdict_of (x ∷ xs)) ≡ true
@@ -46,7 +48,7 @@ others_accept m r (x ∷ xs) e = go (eqb x.number m) e (others_accept m r xs)
 pub before_accepts : (m : ℕ) (r : Reason) (rs : List Reason) → r.holds ≡ false → is_accepted (verdict_of rs) ≡ true → is_accepted (verdict_of (before m r rs)) ≡ true
 unfolding before
 before_accepts m r [] e h = accepts_cons r [] e h
-before_accepts m r (x ∷ xs) e h = go (eqb x.number m) (before_accepts m r xs e (rest_accepts x xs h))
+before_accepts m r (x ∷ xs) e h = go (eqb (refusal_number x.refusal) m) (before_accepts m r xs e (rest_accepts x xs h))
   where
     go : (b : Bool) → is_accepted (verdict_of (before m r xs)) ≡ true → is_accepted (verdict_of (cond b (r ∷ x ∷ xs) (x ∷ before m r xs))) ≡ true
     go true ih = accepts_cons r (x ∷ xs) e h
@@ -118,7 +120,7 @@ card_there b i k n e = ltb-true i (length b.cards) (not-false (ltb i (length b.c
 
 pub card_within : (b : Box) (i : ℕ) (k : Kind) (n : ℕ) → box_accepts b (Use i k n) ≡ true → beyond (get_or b.cards i no_card) k n ≡ false
 unfolding box_accepts box_verdict box_reasons with_allowance
-card_within b i k n e = before_fails 6 (because 20 (beyond (get_or b.cards i no_card) k n)) _ (rest_accepts _ _ (rest_accepts _ _ e))
+card_within b i k n e = before_fails 6 (because CardAllowance (beyond (get_or b.cards i no_card) k n)) _ (rest_accepts _ _ (rest_accepts _ _ e))
 
 -- lifetime units stay within their limit
 pub lifetime_room : (b : Box) (i : ℕ) (k : Kind) (n : ℕ) → box_accepts b (Use i k n) ≡ true → AtMost (b.account.state.meters.lifetime ⊕ only k n) lifetime_most

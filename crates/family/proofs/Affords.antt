@@ -31,6 +31,7 @@ use Rattle.family.specs.Box.{box_verdict, box_accepts}
 use Rattle.family.specs.Answers.{box_afford}
 use Rattle.family.specs.Seen.{room_of}
 use Rattle.family.proofs.Accepts.{account_accepts, card_within, before_accepts, box_tells, has_account}
+use Rattle.tariff.specs.declared.Refusal.TheVariants.{CardAllowance}
 
 largest_most : (f : ℕ → Bool) (n : ℕ) → largest f n ≤ n
 unfolding largest
@@ -88,22 +89,29 @@ within_is c Outgoing n h l = sym (le-leb n 1000000000 l)
 within_is c Incoming n h l = sym (le-leb n 1000000000 l)
 within_is c Sms n h l = sym (le-leb n 1000000000 l)
 
-monthly_ok : (cs : List Card) (i : ℕ) → cards_sound cs ≡ true → (get_or cs i no_card).monthly ≤ (get_or cs i no_card).allowance
+-- a card of sound cards is sound; where there is none, what is read is
+sound_at : (cs : List Card) (i : ℕ) → cards_sound cs ≡ true → card_sound (get_or cs i no_card) ≡ true
 unfolding cards_sound
-monthly_ok [] i e = omega arith
-monthly_ok (c ∷ cs) zero e =
+sound_at [] i e = refl
+sound_at (c ∷ cs) zero e = and_left (card_sound c) (cards_sound cs) e
+sound_at (c ∷ cs) (suc i) e = sound_at cs i (and_right (card_sound c) (cards_sound cs) e)
+
+-- its kB of the month are within its lifetime kB and its allowance
+pub monthly_ok : (cs : List Card) (i : ℕ) → cards_sound cs ≡ true
+    → ((get_or cs i no_card).monthly ≤ (get_or cs i no_card).lifetime.kb) × ((get_or cs i no_card).monthly ≤ (get_or cs i no_card).allowance)
+monthly_ok cs i e =
+    let c = get_or cs i no_card in
     let x = leb c.monthly c.lifetime.kb in
     let y = leb c.monthly c.allowance in
-    let z = allowance_fits c.allowance in
-    leb-true c.monthly c.allowance (and_right x y (and_left (x && y) z (and_left (card_sound c) (cards_sound cs) e)))
-monthly_ok (c ∷ cs) (suc i) e = monthly_ok cs i (and_right (card_sound c) (cards_sound cs) e)
+    let h : (x && y) ≡ true = and_left (x && y) (allowance_fits c.allowance) (sound_at cs i e) in
+    (leb-true c.monthly c.lifetime.kb (and_left x y h), leb-true c.monthly c.allowance (and_right x y h))
 
 module _ (b : Box) (i : ℕ) (k : Kind) (s : box_sound b ≡ true) (t : (not (ltb i (length b.cards)) || ltb 16 (length b.cards)) ≡ false) where
   abbrev own : Card
   own = get_or b.cards i no_card
 
   inside : (n : ℕ) → accepts b.account (plain-call.Use k n) ≡ true → not (beyond own k n) ≡ leb n (room_of own k)
-  inside n e = within_is own k n (monthly_ok b.cards i (box_tells b s).each_ok) (few n 1000000000 (some_units b.account k n e))
+  inside n e = within_is own k n (monthly_ok b.cards i (box_tells b s).each_ok).1 (few n 1000000000 (some_units b.account k n e))
 
   both_there : (n : ℕ) → box_accepts b (Use i k n) ≡ true → (accepts b.account (plain-call.Use k n) && leb n (room_of own k)) ≡ true
   both_there n e =
@@ -115,7 +123,7 @@ module _ (b : Box) (i : ℕ) (k : Kind) (s : box_sound b ≡ true) (t : (not (lt
   both_back n e =
       let a : accepts b.account (plain-call.Use k n) ≡ true = and_left (accepts b.account (plain-call.Use k n)) (leb n (room_of own k)) e in
       let w : beyond own k n ≡ false = not-true (beyond own k n) (inside n a ∙ and_right (accepts b.account (plain-call.Use k n)) (leb n (room_of own k)) e) in
-      accepts_cons _ _ (ap not s) (accepts_cons _ _ t (before_accepts 6 (because 20 (beyond own k n)) _ w (rest_accepts _ _ a)))
+      accepts_cons _ _ (ap not s) (accepts_cons _ _ t (before_accepts 6 (because CardAllowance (beyond own k n)) _ w (rest_accepts _ _ a)))
 
   -- the box accepts what the account accepts and the allowance has room for
   pub accepts_both : (n : ℕ) → box_accepts b (Use i k n) ≡ (accepts b.account (plain-call.Use k n) && leb n (room_of own k))

@@ -1,13 +1,12 @@
 -- What opening a box and the calls on it answer, beside the account and the cards that they leave (family-1, family-3,
 -- family-5, family-7, family-14, afford-1). Choice (docs/DECISIONS.md, "Family box"): a refused opening. Assumes nothing.
-use Rattle.std.specs.Prelude.{ℕ, not, cond, ◌||◌, List, [], ◌∷◌, ◌++◌, map, ltb, eqb, length}
+use Rattle.std.specs.Prelude.{ℕ, not, cond, ◌||◌, List, [], ◌∷◌, ◌++◌, map, ltb, eqb, length, Result, ⊤}
 use Rattle.tariff.specs.declared.Kind.{Kind}
 use Rattle.tariff.specs.declared.Plan.{Plan}
-use Rattle.tariff.specs.declared.Verdict.{Verdict}
 use Rattle.tariff.specs.Tests.{Reason, because, verdict_of, is_accepted}
 use Rattle.tariff.specs.Plan.{plan_reasons}
-use Rattle.state.specs.declared.Answer.{Answer}
-use Rattle.state.specs.declared.Answer.TheVariants.{UpTo}
+use Rattle.state.specs.declared.Outcome.{Outcome}
+use Rattle.state.specs.declared.Outcome.TheVariants.{UpTo}
 use Rattle.state.specs.Reasons.{answer_by}
 use Rattle.account.specs.declared.Applied.{Applied}
 use Rattle.account.specs.declared.StateOpened.{StateOpened}
@@ -19,22 +18,27 @@ use Rattle.cards.specs.Cards.{allowances_fit, fresh}
 use Rattle.family.specs.declared.BoxCall.{BoxCall}
 use Rattle.family.specs.declared.BoxCall.TheVariants.{Register, Use, TopUp, NextDay, Afford}
 use Rattle.family.specs.Box.{Box, box_of, plain, box_verdict, box_accepts, box_step}
+use Rattle.tariff.specs.declared.Refusal.{Refusal}
+use Rattle.tariff.specs.declared.Refusal.TheVariants.{CardPlace, CardAllowance}
 
 -- family-1, family-3, family-14: 19 for no card or over 16, then 20 for an allowance out of range
 unfoldable pub card_reasons : List Card → List Reason
-card_reasons cs = because 19 (eqb (length cs) 0 || ltb 16 (length cs)) ∷ because 20 (not (allowances_fit cs)) ∷ []
+card_reasons cs =
+    because CardPlace (eqb (length cs) 0 || ltb 16 (length cs))
+    ∷ because CardAllowance (not (allowances_fit cs))
+    ∷ []
 
 -- family-14, order-4: the plan's reasons, then those of the cards
 unfoldable pub open_reasons : Plan → List Card → List Reason
 open_reasons p cs = plan_reasons p ++ card_reasons cs
 
 -- family-14: the first number whose reason holds
-unfoldable pub open_verdict : Plan → List Card → Verdict
+unfoldable pub open_verdict : Plan → List Card → Result ⊤ Refusal
 open_verdict p cs = verdict_of (open_reasons p cs)
 
 -- aid: what opening answers, with the box
 pub record BoxOpened : Type 0 where
-  pub answer : Verdict
+  pub answer : Result ⊤ Refusal
   pub box : Box
 
 -- family-3, family-14: a new account, and cards with their allowances and nothing else; a refusal leaves the cards
@@ -53,7 +57,7 @@ unfoldable pub box_afford : Box → ℕ → Kind → ℕ
 box_afford b i k = largest (λ n. box_accepts b (Use i k n)) 1000000000
 
 -- use-14, afford-1, form-8: what an accepted call answers: Afford the card's number, other calls what the account does
-unfoldable pub box_answer : Box → BoxCall → Answer
+unfoldable pub box_answer : Box → BoxCall → Outcome
 box_answer b (Register p) = accepted_answer b.account (plain (Register p))
 box_answer b (Use i k n) = accepted_answer b.account (plain (Use i k n))
 box_answer b (TopUp n) = accepted_answer b.account (plain (TopUp n))

@@ -1,12 +1,12 @@
 -- A family box, the common account with its cards: when it is sound, what its calls decline, and what they make of it
 -- (family-1, family-2, family-4 to family-9, family-11 to family-13). Choices (docs/DECISIONS.md, "Family box"): calls
 -- that name no card; the order of a use's refusals; the month of a card; a card's sums. Assumes nothing.
-use Rattle.std.specs.Prelude.{ℕ, ◌+◌, Bool, true, false, not, cond, ◌&&◌, ◌||◌, List, [], ◌∷◌, map, ltb, eqb, length, get_or}
+use Rattle.std.specs.Prelude.{ℕ, ◌+◌, Bool, true, false, not, cond, ◌&&◌, ◌||◌, List, [], ◌∷◌, map, ltb, eqb, length, get_or, Result, ⊤}
 use Rattle.calendar.specs.Calendar.{starts_month}
 use Rattle.tariff.specs.declared.Units.{Units}
 use Rattle.tariff.specs.declared.Kind.{Kind}
 use Rattle.tariff.specs.declared.Kind.TheVariants.{Data, Outgoing, Incoming, Sms}
-use Rattle.tariff.specs.declared.Verdict.{Verdict}
+use Rattle.tariff.specs.Refusal.{refusal_number}
 use Rattle.tariff.specs.Tests.{Reason, because, verdict_of, is_accepted}
 use Rattle.tariff.specs.Units.{only}
 use Rattle.state.specs.declared.State.{State}
@@ -20,6 +20,8 @@ use Rattle.cards.specs.declared.Card.{Card}
 use Rattle.cards.specs.Cards.{no_card, cards_units, cards_sound, use_at, cleared}
 use Rattle.family.specs.declared.BoxCall.{BoxCall}
 use Rattle.family.specs.declared.BoxCall.TheVariants.{Register, Use, TopUp, NextDay, Afford}
+use Rattle.tariff.specs.declared.Refusal.{Refusal}
+use Rattle.tariff.specs.declared.Refusal.TheVariants.{Unsound, CardPlace, CardAllowance}
 
 -- family-1, family-5: the account is common: plan, money, H, R, L, log and states; the cards are a list
 pub record Box : Type 0 where
@@ -74,12 +76,12 @@ beyond c k n = is_data k && ltb c.allowance (c.monthly + n)
 -- aid: the reasons with r put before the one of number m
 unfoldable pub before : ℕ → Reason → List Reason → List Reason
 before m r [] = r ∷ []
-before m r (x ∷ xs) = cond (eqb x.number m) (r ∷ x ∷ xs) (x ∷ before m r xs)
+before m r (x ∷ xs) = cond (eqb (refusal_number x.refusal) m) (r ∷ x ∷ xs) (x ∷ before m r xs)
 
 -- family-13: of a use, 20 stands before 6, and so after 5
 unfoldable pub with_allowance : List Card → BoxCall → List Reason → List Reason
 with_allowance cs (Register p) rs = rs
-with_allowance cs (Use i k n) rs = before 6 (because 20 (beyond (get_or cs i no_card) k n)) rs
+with_allowance cs (Use i k n) rs = before 6 (because CardAllowance (beyond (get_or cs i no_card) k n)) rs
 with_allowance cs (TopUp n) rs = rs
 with_allowance cs NextDay rs = rs
 with_allowance cs (Afford i k) rs = rs
@@ -87,12 +89,12 @@ with_allowance cs (Afford i k) rs = rs
 -- family-11, family-12, family-13, order-3: 0, then 19, then the account's own reasons, with 20 among a use's
 unfoldable pub box_reasons : Box → BoxCall → List Reason
 box_reasons b c =
-    because 0 (not (box_sound b))
-    ∷ because 19 (no_such_card c (length b.cards))
+    because Unsound (not (box_sound b))
+    ∷ because CardPlace (no_such_card c (length b.cards))
     ∷ with_allowance b.cards c (own_reasons b.account (plain c))
 
 -- order-1: the first number whose reason holds
-unfoldable pub box_verdict : Box → BoxCall → Verdict
+unfoldable pub box_verdict : Box → BoxCall → Result ⊤ Refusal
 box_verdict b c = verdict_of (box_reasons b c)
 
 -- list-3: no reason holds

@@ -1,18 +1,17 @@
 -- What inner functions work out of a call, by what one pass over the cards found. No contract of an entry point cites
 -- these definitions: proofs/Ties ties them to those of `Box` and `Answers`. Assumes nothing.
-use Rattle.std.specs.Prelude.{ℕ, ◌-◌, min, Bool, false, not, cond, ◌&&◌, ◌||◌, List, [], ◌∷◌, ◌++◌, ltb, eqb}
+use Rattle.std.specs.Prelude.{ℕ, ◌-◌, min, Bool, false, not, cond, ◌&&◌, ◌||◌, List, [], ◌∷◌, ◌++◌, ltb, eqb, Some, None, is_none, unwrap_or, Result, Ok, Err, ⊤}
 use Rattle.calendar.specs.Calendar.{starts_month}
 use Rattle.tariff.specs.declared.Kind.{Kind}
 use Rattle.tariff.specs.declared.Kind.TheVariants.{Data, Outgoing, Incoming, Sms}
 use Rattle.tariff.specs.declared.Plan.{Plan}
-use Rattle.tariff.specs.declared.Verdict.{Verdict}
-use Rattle.tariff.specs.declared.Verdict.TheVariants as Judged
+use Rattle.tariff.specs.Refusal.{refusal_number}
 use Rattle.tariff.specs.Tests.{Reason, because, verdict_of, is_accepted}
 use Rattle.tariff.specs.Plan.{plan_reasons}
 use Rattle.tariff.specs.Units.{only}
 use Rattle.state.specs.declared.State.{State}
-use Rattle.state.specs.declared.Answer.{Answer}
-use Rattle.state.specs.declared.Answer.TheVariants.{Done, Charged, UpTo, Refused}
+use Rattle.state.specs.declared.Outcome.{Outcome}
+use Rattle.state.specs.declared.Outcome.TheVariants.{Done, Charged, UpTo}
 use Rattle.state.specs.declared.StateApplied.{StateApplied}
 use Rattle.state.specs.Reasons.{is_taken}
 use Rattle.account.specs.declared.Account.{Account}
@@ -23,10 +22,14 @@ use Rattle.account.specs.Answers.{no_plan, applied, account_of, applied_state}
 use Rattle.cards.specs.declared.Card.{Card}
 use Rattle.cards.specs.declared.Survey.{Survey}
 use Rattle.cards.specs.declared.Change.{Change}
+use Rattle.cards.specs.declared.Renewal.TheVariants.{Month, Life}
+use Rattle.cards.specs.Cards.{no_card}
 use Rattle.cards.specs.Survey.{held_used}
 use Rattle.family.specs.declared.BoxCall.{BoxCall}
 use Rattle.family.specs.declared.BoxCall.TheVariants.{Register, Use, TopUp, NextDay, Afford}
 use Rattle.family.specs.Box.{plain, same_units, beyond}
+use Rattle.tariff.specs.declared.Refusal.{Refusal}
+use Rattle.tariff.specs.declared.Refusal.TheVariants.{Unsound, CardPlace, CardAllowance}
 
 -- aid: the place of the card that a call names, else the first
 abbrev pub card_place : BoxCall → ℕ
@@ -40,20 +43,22 @@ card_place (Afford i k) = i
 abbrev pub cards_fit : State → Survey → Bool
 cards_fit a s = same_units s.total a.meters.lifetime && s.ordered
 
+-- aid: the card that was found, or what is read where there is none
+abbrev pub card_read : Survey → Card
+card_read s = unwrap_or s.card no_card
+
 -- aid: no card at the named place, or over 16
 abbrev pub card_missing : Survey → BoxCall → Bool
 card_missing s (Register p) = ltb 16 s.count
-card_missing s (Use i k n) = not s.found || ltb 16 s.count
+card_missing s (Use i k n) = is_none s.card || ltb 16 s.count
 card_missing s (TopUp n) = ltb 16 s.count
 card_missing s NextDay = ltb 16 s.count
-card_missing s (Afford i k) = not s.found || ltb 16 s.count
+card_missing s (Afford i k) = is_none s.card || ltb 16 s.count
 
 -- aid: 0, 3, 4 and 5 come before 20
-abbrev pub beyond_number : Answer → ℕ
-beyond_number Done = 20
-beyond_number (Charged c) = 20
-beyond_number (UpTo n) = 20
-beyond_number (Refused n) = cond (ltb n 6) n 20
+abbrev pub beyond_refusal : Result Outcome Refusal → Refusal
+beyond_refusal (Ok x) = CardAllowance
+beyond_refusal (Err r) = cond (ltb (refusal_number r) 6) r CardAllowance
 
 -- aid: how much of a kind the card may use; no use has over 1,000,000,000 units
 abbrev pub room_of : Card → Kind → ℕ
@@ -63,20 +68,20 @@ room_of c Incoming = 1000000000
 room_of c Sms = 1000000000
 
 -- aid: no more than r
-abbrev pub answer_within : Answer → ℕ → Answer
-answer_within Done r = Done
-answer_within (Charged c) r = Charged c
-answer_within (UpTo n) r = UpTo (min n r)
-answer_within (Refused n) r = Refused n
+abbrev pub answer_within : Result Outcome Refusal → ℕ → Result Outcome Refusal
+answer_within (Ok Done) r = Ok Done
+answer_within (Ok (Charged c)) r = Ok (Charged c)
+answer_within (Ok (UpTo n)) r = Ok (UpTo (min n r))
+answer_within (Err e) r = Err e
 
 -- aid: refused, with all of the account but its log as it was
-abbrev pub declined_state : State → ℕ → StateApplied
-declined_state a n = record { answer = Refused n; state = a }
+abbrev pub declined_state : State → Refusal → StateApplied
+declined_state a r = record { answer = Err r; state = a }
 
 -- aid: what the account made of a call, as the card allows
 abbrev pub within_card : State → StateApplied → Card → BoxCall → StateApplied
 within_card a x d (Register p) = x
-within_card a x d (Use i k n) = cond (beyond d k n) (declined_state a (beyond_number x.answer)) x
+within_card a x d (Use i k n) = cond (beyond d k n) (declined_state a (beyond_refusal x.answer)) x
 within_card a x d (TopUp n) = x
 within_card a x d NextDay = x
 within_card a x d (Afford i k) = record { answer = answer_within x.answer (room_of d k); state = x.state }
@@ -88,10 +93,10 @@ with_log a x = record { answer = x.answer; account = account_of x.state a.log }
 -- aid: a call's answer and account
 unfoldable pub seen_applied : Account → Survey → BoxCall → Applied
 seen_applied a s c =
-    cond (not (cards_fit a.state s)) (with_log a (declined_state a.state 0))
-    (cond (card_missing s c) (with_log a (declined_state a.state (cond (sound a) 19 0)))
+    cond (not (cards_fit a.state s)) (with_log a (declined_state a.state Unsound))
+    (cond (card_missing s c) (with_log a (declined_state a.state (cond (sound a) CardPlace Unsound)))
     (with_log (applied a (plain c)).account
-    (within_card a.state (applied_state (applied a (plain c))) s.card c)))
+    (within_card a.state (applied_state (applied a (plain c))) (card_read s) c)))
 
 -- aid: the named card after an accepted call
 abbrev pub card_after : Card → BoxCall → Card
@@ -111,27 +116,26 @@ month_turns (Afford i k) d = false
 
 -- aid: the cards stay
 abbrev pub no_change : ℕ → Survey → Change
-no_change i s = record { place = i; card = s.card; renews = false; anew = false }
+no_change i s = record { place = i; card = card_read s; renewal = None }
 
 -- aid: what a call makes of the cards
 abbrev pub seen_change : StateApplied → Survey → BoxCall → Change
 seen_change x s c = record {
   place = card_place c;
-  card = cond (is_taken x.answer) (card_after s.card c) s.card;
-  renews = is_taken x.answer && month_turns c x.state.day;
-  anew = false;
+  card = cond (is_taken x.answer) (card_after (card_read s) c) (card_read s);
+  renewal = cond (is_taken x.answer && month_turns c x.state.day) (Some Month) None;
 }
 
--- aid: an opening that is refused with n
-abbrev pub unopened_with : ℕ → StateOpened
-unopened_with n = record { answer = Judged.Refused n; state = (opened no_plan).state }
+-- aid: an opening that is refused with r
+abbrev pub unopened_with : Refusal → StateOpened
+unopened_with r = record { answer = Err r; state = (opened no_plan).state }
 
 -- aid: what the cards decline an opening with
 unfoldable pub found_reasons : Survey → List Reason
-found_reasons s = because 19 (eqb s.count 0 || ltb 16 s.count) ∷ because 20 (not s.allowed) ∷ []
+found_reasons s = because CardPlace (eqb s.count 0 || ltb 16 s.count) ∷ because CardAllowance (not s.allowed) ∷ []
 
 -- aid: opening, by the count of the cards and their allowances
-unfoldable pub seen_verdict : Plan → Survey → Verdict
+unfoldable pub seen_verdict : Plan → Survey → Result ⊤ Refusal
 seen_verdict p s = verdict_of (plan_reasons p ++ found_reasons s)
 
 -- aid: the same with all of the account but its log
@@ -142,5 +146,5 @@ seen_opened p s = record {
 }
 
 -- aid: what opening makes of the cards
-abbrev pub opening_change : Verdict → Survey → Change
-opening_change v s = record { place = 0; card = s.card; renews = is_accepted v; anew = is_accepted v }
+abbrev pub opening_change : Result ⊤ Refusal → Survey → Change
+opening_change v s = record { place = 0; card = card_read s; renewal = cond (is_accepted v) (Some Life) None }

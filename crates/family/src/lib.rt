@@ -3,13 +3,14 @@
 
 pub mod seen;
 
-ghost use Rattle.std.specs.Prelude.{◌≡◌, length};
+ghost use Rattle.std.specs.Prelude.{◌≡◌};
 ghost use Rattle.account.specs.Answers.{applied_state};
 ghost use Rattle.family.specs.Box.{box_with, box_step};
 ghost use Rattle.family.specs.Answers.{box_applied, open_box, box_parts};
 
 use account::StateOpened;
 use cards::Card;
+use presence::Log;
 use state::{State, StateApplied};
 use tariff::{Kind, Place, Plan};
 
@@ -25,30 +26,27 @@ pub enum BoxCall {
 
 // Opens a box under the plan for the cards with their allowances: refusals 1, 17, 18, 2, 19 and 20. The account's log
 // is empty. A refusal leaves the cards as they were, and an account that is not sound.
+#[tactic(auto, using(crate::proofs::Ties::opened_is, crate::proofs::Ties::opened_cards))]
 pub fn open_with(cards: &mut [Card], p: Plan) -> StateOpened
     ensures { (result ≡ box_parts (open_box p cards.old))
         × (cards.new ≡ (open_box p cards.old).box.cards) }
 {
-    let from = cards::start_at(0);
-    let found = cards::survey_all(cards, from);
+    let found = cards::survey_all(cards, cards::start_at(0));
     let opened = seen::open_seen(p, found);
-    let change = seen::opening_of(opened, found);
-    cards::settle(cards, change);
+    cards::settle(cards, seen::opening_of(opened, found));
     opened
 }
 
-// A call on all of the account but its log, which is lent, 1,599 numbers, and on the cards: refusals 0, 19, those of
-// the account's call and, before 6, 20. A refusal changes neither log nor card.
-pub fn call_with(state: State, log: &mut [u64], cards: &mut [Card], c: BoxCall) -> StateApplied
-    requires { length log.old ≡ 1599 }
+// A call on all of the account but its log, which is lent, and on the cards: refusals 0, 19, those of the account's
+// call and, before 6, 20. A refusal changes neither log nor card.
+#[tactic(auto, unfolding(crate::specs::Answers::box_applied), using(crate::proofs::Ties::called_is, crate::proofs::Ties::cards_are))]
+pub fn call_with(state: State, log: &mut Log, cards: &mut [Card], c: BoxCall) -> StateApplied
     ensures { (result ≡ applied_state (box_applied (box_with state log.old cards.old) c))
         × (log.new ≡ (box_step (box_with state log.old cards.old) c).account.log)
         × (cards.new ≡ (box_step (box_with state log.old cards.old) c).cards) }
 {
-    let from = seen::start_for(c);
-    let found = cards::survey_all(cards, from);
+    let found = cards::survey_all(cards, seen::start_for(c));
     let done = seen::call_seen(state, log, found, c);
-    let change = seen::change_of(done, found, c);
-    cards::settle(cards, change);
+    cards::settle(cards, seen::change_of(done, found, c));
     done
 }

@@ -11,14 +11,12 @@ use Rattle.tariff.specs.declared.Units.{Units}
 use Rattle.tariff.specs.declared.Kind.{Kind}
 use Rattle.tariff.specs.declared.Kind.TheVariants.{Data, Outgoing, Incoming, Sms}
 use Rattle.tariff.specs.declared.Plan.{Plan}
-use Rattle.tariff.specs.declared.Verdict.{Verdict}
-use Rattle.tariff.specs.declared.Verdict.TheVariants.{Accepted, Refused}
 use Rattle.tariff.specs.Tests.{Reason, because, verdict_of, is_accepted, between}
 use Rattle.tariff.specs.Units.{only}
 use Rattle.tariff.specs.Plan.{plan_reasons, plan_verdict}
 use Rattle.tariff.proofs.Tests.{and_left}
 use Rattle.presence.specs.Day.{is_placed}
-use Rattle.state.specs.declared.Answer.TheVariants.{UpTo}
+use Rattle.state.specs.declared.Outcome.TheVariants.{UpTo}
 use Rattle.state.specs.Use.{charged_units, cost}
 use Rattle.state.specs.Reasons.{overfills, use_reasons, answer_by}
 use Rattle.state.proofs.Verdicts.{has_room}
@@ -42,6 +40,9 @@ use Rattle.family_ledger.specs.Claims.{on_first, answers, box_answers, AsPlain, 
 use Rattle.family_ledger.specs.Lists.{box_run}
 use Rattle.family_ledger.proofs.Kept.{box_step_kept, box_passes}
 use Rattle.family_ledger.proofs.Claims.{opened_sound}
+use Rattle.std.specs.Prelude.{Result, Ok, Err, ⊤}
+use Rattle.tariff.specs.declared.Refusal.{Refusal}
+use Rattle.tariff.specs.declared.Refusal.TheVariants.{Unplaced, UnitCount, MeterFull, OverCredit, CardPlace, CardAllowance}
 
 -- a box with one card
 abbrev one : Account → Card → Box
@@ -67,17 +68,21 @@ not_beyond a c Outgoing n w e f = refl
 not_beyond a c Incoming n w e f = refl
 not_beyond a c Sms n w e f = refl
 
+-- the last test of a use
+abbrev credit_test : Account → Kind → ℕ → Result ⊤ Refusal
+credit_test a k n = cond (ltb a.state.money.credit (cost a.state (charged_units a.state.place k n))) (Err OverCredit) (Ok tt)
+
 -- the reasons of a use on one card, and of the account's use
 use_verdict : (a : Account) (c : Card) (k : Kind) (n : ℕ) → LargestAllowance c → box_sound (one a c) ≡ true
-    → verdict_of (before 6 (because 20 (beyond c k n)) (use_reasons a.state k n)) ≡ verdict_of (use_reasons a.state k n)
+    → verdict_of (before 6 (because CardAllowance (beyond c k n)) (use_reasons a.state k n)) ≡ verdict_of (use_reasons a.state k n)
 unfolding before use_reasons verdict_of
 use_verdict a c k n w e = go (overfills a.state k n) refl
   where
     go : (x : Bool) → overfills a.state k n ≡ x
-        → cond (not (is_placed a.state.place)) (Refused 3) (cond (not (between 1 n 1000000000)) (Refused 4) (cond x (Refused 5)
-        (cond (beyond c k n) (Refused 20) (cond (ltb a.state.money.credit (cost a.state (charged_units a.state.place k n))) (Refused 6) Accepted))))
-        ≡ cond (not (is_placed a.state.place)) (Refused 3) (cond (not (between 1 n 1000000000)) (Refused 4) (cond x (Refused 5)
-        (cond (ltb a.state.money.credit (cost a.state (charged_units a.state.place k n))) (Refused 6) Accepted)))
+        → cond (not (is_placed a.state.place)) (Err Unplaced) (cond (not (between 1 n 1000000000)) (Err UnitCount) (cond x (Err MeterFull)
+        (cond (beyond c k n) (Err CardAllowance) (credit_test a k n))))
+        ≡ cond (not (is_placed a.state.place)) (Err Unplaced) (cond (not (between 1 n 1000000000)) (Err UnitCount) (cond x (Err MeterFull)
+        (credit_test a k n)))
     go true f = refl
     go false f = rw (not_beyond a c k n w e f) refl
 
@@ -86,7 +91,7 @@ abbrev Alike : Account → Card → Type 0
 Alike a c = LargestAllowance c × (box_sound (one a c) ≡ sound a)
 
 own_verdict : (a : Account) (c : Card) (x : Call) → LargestAllowance c → box_sound (one a c) ≡ true
-    → verdict_of (because 19 (no_such_card (on_first x) 1) ∷ with_allowance (c ∷ []) (on_first x) (own_reasons a (plain (on_first x)))) ≡ verdict_of (own_reasons a x)
+    → verdict_of (because CardPlace (no_such_card (on_first x) 1) ∷ with_allowance (c ∷ []) (on_first x) (own_reasons a (plain (on_first x)))) ≡ verdict_of (own_reasons a x)
 unfolding on_first plain no_such_card with_allowance own_reasons verdict_of
 own_verdict a c (plain-call.Register p) w e = refl
 own_verdict a c (plain-call.Use k n) w e = use_verdict a c k n w e
@@ -211,10 +216,10 @@ as_plain : (a : Account) (c : Card) → Alike a c → (xs : List Call) → AsPla
 as_plain a c h xs = record { same_answers = answers_same a c xs h; same_account = run_same a c xs h }
 
 -- opening one card: its own reasons do not hold
-app_accepted : (rs ss : List Reason) → verdict_of ss ≡ Accepted → verdict_of (rs ++ ss) ≡ verdict_of rs
+app_accepted : (rs ss : List Reason) → verdict_of ss ≡ Ok tt → verdict_of (rs ++ ss) ≡ verdict_of rs
 unfolding verdict_of
 app_accepted [] ss e = e
-app_accepted (r ∷ rs) ss e = ap (λ (v : Verdict). cond r.holds (Refused r.number) v) (app_accepted rs ss e)
+app_accepted (r ∷ rs) ss e = ap (λ (v : Result ⊤ Refusal). cond r.holds (Err r.refusal) v) (app_accepted rs ss e)
 
 fits_one : (c : Card) → LargestAllowance c → allowances_fit (c ∷ []) ≡ true
 unfolding allowances_fit

@@ -1,10 +1,11 @@
 -- What else holds of every family box: which cards a call can change, what Afford of a card answers, and that a box
 -- with one card of the largest allowance is the plain account (family-3, family-5 to family-7, family-9, family-13,
 -- family-14, afford-1, order-2). No choice matters here. Assumes nothing.
-use Rattle.std.specs.Prelude.{ℕ, ◌<◌, ◌≡◌, true, false, List, [], ◌∷◌, map, length, get_or}
+use Rattle.std.specs.Prelude.{ℕ, ◌<◌, ◌≡◌, true, false, List, [], ◌∷◌, map, length, get_or, Result}
 use Rattle.tariff.specs.declared.Kind.{Kind}
 use Rattle.tariff.specs.declared.Plan.{Plan}
-use Rattle.state.specs.declared.Answer.{Answer}
+use Rattle.tariff.specs.declared.Refusal.{Refusal}
+use Rattle.state.specs.declared.Outcome.{Outcome}
 use Rattle.account.specs.declared.Account.{Account}
 use Rattle.account.specs.declared.Call.{Call}
 use Rattle.account.specs.declared.Call.TheVariants as plain-call
@@ -50,12 +51,12 @@ on_first plain-call.NextDay = NextDay
 on_first (plain-call.Afford k) = Afford 0 k
 
 -- aid: what the calls of a list on an account answer, one after the other
-unfoldable pub answers : Account → List Call → List Answer
+unfoldable pub answers : Account → List Call → List (Result Outcome Refusal)
 answers a [] = []
 answers a (c ∷ cs) = (applied a c).answer ∷ answers (step a c) cs
 
 -- aid: what the calls of a list on a box answer
-unfoldable pub box_answers : Box → List BoxCall → List Answer
+unfoldable pub box_answers : Box → List BoxCall → List (Result Outcome Refusal)
 box_answers b [] = []
 box_answers b (c ∷ cs) = (box_applied b c).answer ∷ box_answers (box_step b c) cs
 

@@ -1,9 +1,8 @@
 -- Demand 3 of family boxes as one claim about whole lists of calls (family-8 to family-10, list-1, list-4, list-7,
 -- list-9, book-12, half-8). The book is the account's: it is fed the account's calls that the box's calls come to, and
 -- whether the box accepted each. No choice matters here beside those of the rules that it rests on. Assumes nothing.
-use Rattle.std.specs.Prelude.{◌≡◌, Bool, true, List, [], ◌∷◌, length, get_or}
+use Rattle.std.specs.Prelude.{◌≡◌, Bool, true, List, [], ◌∷◌, length, get_or, Ok}
 use Rattle.tariff.specs.declared.Plan.{Plan}
-use Rattle.tariff.specs.declared.Verdict.TheVariants.{Accepted}
 use Rattle.account.specs.declared.Call.{Call}
 use Rattle.cards.specs.declared.Card.{Card}
 use Rattle.cards.specs.Cards.{cards_units}
@@ -17,7 +16,7 @@ use Rattle.family_ledger.specs.Lists.{box_calls, box_run}
 
 -- list-4, family-14: opening accepts plan and cards and hands out the box
 abbrev pub BoxOpensAs : Plan → List Card → Box → Type 0
-BoxOpensAs p cs b = open_box p cs ≡ record { answer = Accepted; box = b }
+BoxOpensAs p cs b = open_box p cs ≡ record { answer = Ok tt; box = b }
 
 -- book-1, family-5: each call as the account's, and whether the box accepted it
 unfoldable pub box_answered : Box → List BoxCall → List (Call × Bool)

@@ -22,26 +22,31 @@ pub fn family_one_more_than_cuts()
 {}
 
 // The last box that a match compares is the one that the list leads to.
+#[tactic(auto, using(crate::proofs::Claims::family_end_is_compared))]
 pub fn family_end_is_compared()
     ensures { FamilyEndIsCompared }
 {}
 
 // A use changes no card but its own, and a refused call changes nothing.
+#[tactic(auto, using(crate::proofs::Others::other_cards_stay))]
 pub fn other_cards_stay()
     ensures { OtherCardsStay }
 {}
 
 // No list of calls changes how many cards there are, or an allowance.
+#[tactic(auto, using(crate::proofs::Others::allowances_stay))]
 pub fn allowances_stay()
     ensures { AllowancesStay }
 {}
 
 // What Afford of a card answers is accepted, and no larger use is; it changes nothing.
+#[tactic(auto, using(crate::proofs::Others::card_afford_is_largest))]
 pub fn card_afford_is_largest()
     ensures { CardAffordIsLargest }
 {}
 
 // A box with one card of the largest allowance opens, answers and charges as the account alone.
+#[tactic(auto, using(crate::proofs::OneCard::one_card_is_plain))]
 pub fn one_card_is_plain()
     ensures { OneCardIsPlain }
 {}

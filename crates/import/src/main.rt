@@ -4,12 +4,11 @@
 // only reads, calls and writes; the file is proved in `conversion`. `./import` adds the words of a number.
 #![tactic(auto)]
 
-use conversion::Imported;
+use conversion::ImportError;
 use std::env::FillError;
 use std::rt::{Env, Files};
 use std::{fs, io};
-use tariff::{Plan, PlanAnswer, Terms};
-use tripfile::Read;
+use tariff::{Plan, Refusal, Terms};
 
 // The i-th number that the program is started with. A word that is missing, no number, or one of over 20 digits counts
 // as a number that every range declines.
@@ -30,22 +29,15 @@ fn has_argument(rt: &impl Env, i: usize) -> bool {
 }
 
 // The plan of the seven numbers, or what declines it.
-fn plan_of_arguments(rt: &impl Env) -> PlanAnswer {
-    let form = argument(rt, 1);
-    let start = argument(rt, 2);
-    let pergb = argument(rt, 3);
-    let perminute = argument(rt, 4);
-    let persms = argument(rt, 5);
-    let fee = argument(rt, 6);
-    let volume = argument(rt, 7);
+fn plan_of_arguments(rt: &impl Env) -> Result<Plan, Refusal> {
     tariff::plans::plan_from(Terms {
-        form,
-        start,
-        pergb,
-        perminute,
-        persms,
-        fee,
-        volume,
+        form: argument(rt, 1),
+        start: argument(rt, 2),
+        pergb: argument(rt, 3),
+        perminute: argument(rt, 4),
+        persms: argument(rt, 5),
+        fee: argument(rt, 6),
+        volume: argument(rt, 7),
     })
 }
 
@@ -53,17 +45,16 @@ fn plan_of_arguments(rt: &impl Env) -> PlanAnswer {
 fn import_under(rt: &(impl Print + Eprint), plan: Plan, lines: &[u8]) -> io::Result<()> {
     // Room for every file, so that 16 is never told.
     let mut file = [0u8; 65536];
-    let imported = conversion::importing::import_text(plan, lines, &mut file);
-    match imported {
-        Imported::Bytes(k) => {
+    match conversion::importing::import_text(plan, lines, &mut file) {
+        Ok(k) => {
             if rt.write_all(&file[..k]).is_err() {
                 eprintln!(rt; "import: cannot write the file")?;
             }
             Ok(())
         }
-        Imported::BadLine(line) => eprintln!(rt; "text 22 line {line}"),
-        Imported::Text(number) => eprintln!(rt; "text {number}"),
-        Imported::Refused(number) => eprintln!(rt; "plan {number}"),
+        Err(ImportError::BadLine(line)) => eprintln!(rt; "text 22 line {line}"),
+        Err(ImportError::Text(refusal)) => eprintln!(rt; "text {refusal}"),
+        Err(ImportError::Writing(refusal)) => eprintln!(rt; "plan {refusal}"),
     }
 }
 
@@ -71,19 +62,17 @@ fn import_under(rt: &(impl Print + Eprint), plan: Plan, lines: &[u8]) -> io::Res
 fn import_from_file(rt: &(impl Files + Print + Eprint), lines: &[u8]) -> io::Result<()> {
     let mut file = [0u8; 65540];
     let n = intake::read_start(&mut fs::open(rt, "/dev/fd/3")?, &mut file)?;
-    let read = tripfile::reading::read(&file[..n]);
-    match read {
-        Read::Trip { plan, calls: _ } => import_under(rt, plan, lines),
-        Read::Refused(number) => eprintln!(rt; "file {number}"),
+    match tripfile::reading::read(&file[..n]) {
+        Ok(trip) => import_under(rt, trip.plan, lines),
+        Err(refusal) => eprintln!(rt; "file {refusal}"),
     }
 }
 
 // The same under the plan of the seven numbers.
 fn import_from_arguments(rt: &(impl Env + Print + Eprint), lines: &[u8]) -> io::Result<()> {
-    let answer = plan_of_arguments(rt);
-    match answer {
-        PlanAnswer::Granted(plan) => import_under(rt, plan, lines),
-        PlanAnswer::Refused(number) => eprintln!(rt; "plan {number}"),
+    match plan_of_arguments(rt) {
+        Ok(plan) => import_under(rt, plan, lines),
+        Err(refusal) => eprintln!(rt; "plan {refusal}"),
     }
 }
 

@@ -15,6 +15,7 @@ pub fn read_start<R: Read>(input: &mut R, buf: &mut [u8]) -> io::Result<usize>
     ensures all { IfOk result (λ n. n < length buf.new → IsAtEnd (R.remaining input.new)) }
 {
     let mut at = 0;
+    // kept: no call of std fills a lent buffer and takes a shorter input, too; read_to_end needs a heap
     while at < buf.len() {
         let n = input.read(&mut buf[at..])?;
         if n == 0 {

@@ -23,8 +23,6 @@ use Rattle.tariff.specs.Units.{each, zero_units, only}
 use Rattle.tariff.specs.Plan.{is_prepaid, plan_allowance}
 use Rattle.tariff.specs.Caps.{built_in, caps_on}
 use Rattle.tariff.specs.Charges.{counted_kb, home_charges_of, surcharges_of}
-use Rattle.presence.specs.declared.Location.{Location}
-use Rattle.presence.specs.declared.Location.TheVariants.{Nowhere, At}
 use Rattle.presence.specs.declared.Day.{Day}
 use Rattle.presence.specs.Day.{in_zone, empty_day, mark_day, add_day, joined}
 use Rattle.presence.specs.Log.{days_of, days_first}
@@ -46,6 +44,7 @@ use Rattle.ledger.specs.Demand3.{Shown, entries_of}
 use Rattle.ledger.proofs.Quiet.{of_month_same, billed_quiet, basis_quiet, monthly_quiet, roamed_quiet}
 use Rattle.ledger.proofs.Months.{Upto, nil, cons, upto_suc, monthly_next, roamed_next, turns_is}
 use Rattle.ledger.proofs.Days.{log_skip, services_skip, day_none, day_use, day_register, day_quiet, joined_last}
+use Rattle.std.specs.Prelude.{Option, Some, None}
 
 -- the entry that an accepted call adds
 abbrev entry : Account → Call → Entry
@@ -108,7 +107,7 @@ extra_is_shown : (o : Opening) (a : Account) (is : List Entry) → Agrees o a is
 extra_is_shown o a is g = g.worked.extra_is ∙ ap surcharges_of g.basis_is
 
 -- the credit after an entry without units is paid in less both charges
-credit_next : (o : Opening) (a : Account) (i : Entry) (is : List Entry) → ((w : Location) → charged_of w i.call ≡ zero_units) → Agrees o a is
+credit_next : (o : Opening) (a : Account) (i : Entry) (is : List Entry) → ((w : Option Place) → charged_of w i.call ≡ zero_units) → Agrees o a is
     → a.state.money.credit + amount_of i.call ≡ paid_in (under o a) (i ∷ is) - (journal_home (under o a) (i ∷ is) + surcharges_of (journal_basis (under o a) is))
 unfolding paid_in
 credit_next o a i is e g =
@@ -116,29 +115,29 @@ credit_next o a i is e g =
     omega (arith, g.balance, g.paid_is, home_is_shown o a is g, extra_is_shown o a is g)
 
 -- the account's tests for an entry into the zone and for a top-up there are the journal's
-enters_is : (f : Form) (w : Location) (q : Place) → enters f w q ≡ is_prepaid f && comes_in w q
+enters_is : (f : Form) (w : Option Place) (q : Place) → enters f w q ≡ is_prepaid f && comes_in w q
 unfolding enters comes_in at_place
-enters_is f Nowhere Home = refl
-enters_is f Nowhere Zone = refl
-enters_is f Nowhere Elsewhere = refl
-enters_is f (At Home) Home = refl
-enters_is f (At Home) Zone = refl
-enters_is f (At Home) Elsewhere = refl
-enters_is f (At Zone) Home = refl
-enters_is f (At Zone) Zone = refl
-enters_is f (At Zone) Elsewhere = refl
-enters_is f (At Elsewhere) Home = refl
-enters_is f (At Elsewhere) Zone = refl
-enters_is f (At Elsewhere) Elsewhere = refl
+enters_is f None Home = refl
+enters_is f None Zone = refl
+enters_is f None Elsewhere = refl
+enters_is f (Some Home) Home = refl
+enters_is f (Some Home) Zone = refl
+enters_is f (Some Home) Elsewhere = refl
+enters_is f (Some Zone) Home = refl
+enters_is f (Some Zone) Zone = refl
+enters_is f (Some Zone) Elsewhere = refl
+enters_is f (Some Elsewhere) Home = refl
+enters_is f (Some Elsewhere) Zone = refl
+enters_is f (Some Elsewhere) Elsewhere = refl
 
-zone_is : (w : Location) → in_zone w ≡ at_place Zone w
+zone_is : (w : Option Place) → in_zone w ≡ at_place Zone w
 unfolding at_place
-zone_is Nowhere = refl
-zone_is (At Home) = refl
-zone_is (At Zone) = refl
-zone_is (At Elsewhere) = refl
+zone_is None = refl
+zone_is (Some Home) = refl
+zone_is (Some Zone) = refl
+zone_is (Some Elsewhere) = refl
 
-renews_is : (f : Form) (w : Location) → renews f w ≡ is_prepaid f && at_place Zone w
+renews_is : (f : Form) (w : Option Place) → renews f w ≡ is_prepaid f && at_place Zone w
 unfolding renews
 renews_is f w = ap (λ (b : Bool). is_prepaid f && b) (zone_is w)
 
@@ -160,7 +159,7 @@ agrees_register o a q is g =
       monthly_is = g.monthly_is ∙ sym (monthly_quiet i is (λ w. refl) _ _);
       roamed_is = cc;
       allowance_is = cc;
-      today_is = ap (mark_day (At q)) g.today_is ∙ day_register (under o a) is a.state.day q;
+      today_is = ap (mark_day (Some q)) g.today_is ∙ day_register (under o a) is a.state.day q;
       log_is = log_step o a i is refl g;
       logged_is = g.logged_is;
       services_is = services_step o a i is refl g;
@@ -276,14 +275,14 @@ at_least_30 : (b : Bool) (n : ℕ) → ltb n 30 ≡ b → max n 30 ≡ cond b 30
 at_least_30 true n e = omega (arith, ltb-true n 30 e)
 at_least_30 false n e = omega (arith, ltb-false n 30 e)
 
-seconds_shown : (w : Location) (n : ℕ) → cond (in_zone w) (max n 30) n ≡ cond (at_place Zone w && ltb n 30) 30 n
+seconds_shown : (w : Option Place) (n : ℕ) → cond (in_zone w) (max n 30) n ≡ cond (at_place Zone w && ltb n 30) 30 n
 unfolding at_place
-seconds_shown Nowhere n = refl
-seconds_shown (At Home) n = refl
-seconds_shown (At Zone) n = at_least_30 (ltb n 30) n refl
-seconds_shown (At Elsewhere) n = refl
+seconds_shown None n = refl
+seconds_shown (Some Home) n = refl
+seconds_shown (Some Zone) n = at_least_30 (ltb n 30) n refl
+seconds_shown (Some Elsewhere) n = refl
 
-charged_shown : (w : Location) (k : Kind) (n : ℕ) → charged_units w k n ≡ charged_of w (Use k n)
+charged_shown : (w : Option Place) (k : Kind) (n : ℕ) → charged_units w k n ≡ charged_of w (Use k n)
 unfolding charged_units charged_as charged_of
 charged_shown w Data n = refl
 charged_shown w Outgoing n = ap (λ (x : ℕ). each 0 x 0 0) (seconds_shown w n)
@@ -445,7 +444,7 @@ unfolding opening_of new_opening opened opened_state
 opening_new p = λ j. record {
   plan = p;
   day = p.start;
-  place = Nowhere;
+  place = None;
   paid = 0;
   billed = zero_units;
   basis = zero_units;

@@ -3,7 +3,6 @@ use mathlib.Core.Path.{◌≡◌, refl, sym, ◌∙◌, ap, subst}
 use mathlib.Core.Bool.{true}
 use mathlib.Core.List.{List, [], ◌∷◌}
 use Rattle.tariff.specs.declared.Plan.{Plan}
-use Rattle.tariff.specs.declared.Verdict.TheVariants.{Accepted}
 use Rattle.tariff.specs.Tests.{is_accepted}
 use Rattle.tariff.specs.Plan.{plan_verdict}
 use Rattle.account.specs.declared.Account.{Account}
@@ -21,6 +20,7 @@ use Rattle.ledger.specs.Demand3.{Demand3, Demand3FromSound, SoundStaysSound, One
 use Rattle.ledger.specs.Journal.{Opening, new_opening, opening_of}
 use Rattle.ledger.proofs.Match.{account_matches}
 use Rattle.ledger.proofs.Book.{balanced, opening_new}
+use Rattle.std.specs.Prelude.{Ok}
 
 sound_run : (a : Account) (cs : List Call) → Sound a → Sound (run a cs)
 unfolding machine.run machine.step step
@@ -32,20 +32,20 @@ pub sound_stays_sound : SoundStaysSound
 sound_stays_sound a s cs = sound_passes (run a cs) (sound_run a cs (sound_tells a s))
 
 -- an account that Open handed out is the newly opened one, and its plan was accepted
-opened_plan : (p : Plan) (a : Account) → OpensAs p a → plan_verdict p ≡ Accepted
+opened_plan : (p : Plan) (a : Account) → OpensAs p a → plan_verdict p ≡ Ok tt
 unfolding open_answer
 opened_plan p a e = ap (λ (r : Opened). r.answer) e
 
 opened_is : (p : Plan) (a : Account) → OpensAs p a → opened p ≡ a
 unfolding open_answer
 opened_is p a e =
-    let v : plan_verdict p ≡ Accepted = opened_plan p a e in
+    let v : plan_verdict p ≡ Ok tt = opened_plan p a e in
     let r = ap (λ (r : Opened). r.account) e in
     rw v at r
 
 opened_sound : (p : Plan) (a : Account) → OpensAs p a → sound (opened p) ≡ true
 opened_sound p a e =
-    let v : plan_verdict p ≡ Accepted = opened_plan p a e in
+    let v : plan_verdict p ≡ Ok tt = opened_plan p a e in
     let b : is_accepted (plan_verdict p) ≡ true = rw v refl in
     sound_passes (opened p) (sound_opened p b)
 

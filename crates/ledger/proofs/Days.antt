@@ -12,8 +12,6 @@ use Rattle.tariff.specs.declared.Kind.{Kind}
 use Rattle.tariff.specs.declared.Place.{Place}
 use Rattle.tariff.specs.declared.Place.TheVariants.{Home, Zone, Elsewhere}
 use Rattle.tariff.specs.Units.{zero_units, ◌⊕◌, only}
-use Rattle.presence.specs.declared.Location.{Location}
-use Rattle.presence.specs.declared.Location.TheVariants.{Nowhere, At}
 use Rattle.presence.specs.declared.Day.{Day}
 use Rattle.presence.specs.Day.{empty_day, mark_day, add_day, joined}
 use Rattle.account.specs.declared.Call.{Call}
@@ -22,6 +20,7 @@ use Rattle.ledger.specs.Lists.{units_of, marks}
 use Rattle.ledger.specs.Journal.{Entry, Opening, at_place, marked_on, used_on, day_of, days, last_days, journal_services}
 use Rattle.ledger.proofs.Quiet.{⊕-zero}
 use Rattle.ledger.proofs.Months.{Upto, nil, cons}
+use Rattle.std.specs.Prelude.{Option, Some, None}
 
 -- an entry of another day leaves a day as it is
 marked_skip : (o : Opening) (d : ℕ) (p : Place) (i : Entry) (is : List Entry) → eqb i.day d ≡ false → marked_on o d p (i ∷ is) ≡ marked_on o d p is
@@ -64,21 +63,21 @@ day_none o d (i ∷ is) s (cons h t) = day_skip o (suc d) i is (ne_eqb i.day (su
 
 -- an entry of today: a use marks and adds, a registration marks, the others do neither
 module _ (o : Opening) (is : List Entry) (d : ℕ) where
-  pub day_use : (k : Kind) (n : ℕ) (w : Location)
+  pub day_use : (k : Kind) (n : ℕ) (w : Option Place)
       → add_day w (only k n) (mark_day w (day_of o d is)) ≡ day_of o d (record { call = Use k n; day = d; place = w } ∷ is)
   unfolding day_of marked_on used_on marks at_place add_day mark_day units_of
-  day_use k n Nowhere = rw (eq-eqb d d refl) refl
-  day_use k n (At Home) = rw (eq-eqb d d refl) refl
-  day_use k n (At Zone) = rw (eq-eqb d d refl) refl
-  day_use k n (At Elsewhere) = rw (eq-eqb d d refl) refl
+  day_use k n None = rw (eq-eqb d d refl) refl
+  day_use k n (Some Home) = rw (eq-eqb d d refl) refl
+  day_use k n (Some Zone) = rw (eq-eqb d d refl) refl
+  day_use k n (Some Elsewhere) = rw (eq-eqb d d refl) refl
 
-  pub day_register : (q : Place) → mark_day (At q) (day_of o d is) ≡ day_of o d (record { call = Register q; day = d; place = At q } ∷ is)
+  pub day_register : (q : Place) → mark_day (Some q) (day_of o d is) ≡ day_of o d (record { call = Register q; day = d; place = Some q } ∷ is)
   unfolding day_of marked_on used_on marks at_place mark_day units_of
   day_register Home = rw (eq-eqb d d refl) (simp add-zero)
   day_register Zone = rw (eq-eqb d d refl) (simp add-zero)
   day_register Elsewhere = rw (eq-eqb d d refl) (simp add-zero)
 
-  used_quiet : (c : Call) (p : Place) (w : Location) → units_of c ≡ zero_units → used_on o d p is ≡ used_on o d p (record { call = c; day = d; place = w } ∷ is)
+  used_quiet : (c : Call) (p : Place) (w : Option Place) → units_of c ≡ zero_units → used_on o d p is ≡ used_on o d p (record { call = c; day = d; place = w } ∷ is)
   unfolding used_on
   used_quiet c p w e = rw e (go (eqb d d && at_place p w))
     where
@@ -86,7 +85,7 @@ module _ (o : Opening) (is : List Entry) (d : ℕ) where
       go true = sym (⊕-zero (used_on o d p is))
       go false = refl
 
-  marked_quiet : (c : Call) (p : Place) (w : Location) → marks c ≡ false → marked_on o d p is ≡ marked_on o d p (record { call = c; day = d; place = w } ∷ is)
+  marked_quiet : (c : Call) (p : Place) (w : Option Place) → marks c ≡ false → marked_on o d p is ≡ marked_on o d p (record { call = c; day = d; place = w } ∷ is)
   unfolding marked_on
   marked_quiet c p w e = rw e (go (eqb d d))
     where
@@ -94,7 +93,7 @@ module _ (o : Opening) (is : List Entry) (d : ℕ) where
       go true = refl
       go false = refl
 
-  pub day_quiet : (c : Call) (w : Location) → units_of c ≡ zero_units → marks c ≡ false → day_of o d is ≡ day_of o d (record { call = c; day = d; place = w } ∷ is)
+  pub day_quiet : (c : Call) (w : Option Place) → units_of c ≡ zero_units → marks c ≡ false → day_of o d is ≡ day_of o d (record { call = c; day = d; place = w } ∷ is)
   unfolding day_of
   day_quiet c w e f = λ j. record {
     home = marked_quiet c Home w f j;

@@ -13,14 +13,10 @@ use Rattle.tariff.specs.declared.Place.TheVariants.{Home, Zone, Elsewhere}
 use Rattle.tariff.specs.declared.Form.{Form}
 use Rattle.tariff.specs.declared.Form.TheVariants.{Prepaid, Bundle, Unlimited}
 use Rattle.tariff.specs.declared.Plan.{Plan}
-use Rattle.tariff.specs.declared.Allowance.{Allowance}
-use Rattle.tariff.specs.declared.Allowance.TheVariants.{NoLimit, Kilobytes}
 use Rattle.tariff.specs.Units.{zero_units, ◌⊕◌, ◌⊗◌}
 use Rattle.tariff.specs.Caps.{built_in, caps_on}
 use Rattle.tariff.specs.Plan.{is_prepaid}
 use Rattle.tariff.specs.Charges.{after_first, billed_kb, counted_kb, after_allowance}
-use Rattle.presence.specs.declared.Location.{Location}
-use Rattle.presence.specs.declared.Location.TheVariants.{Nowhere, At}
 use Rattle.presence.specs.declared.ServiceState.{ServiceState}
 use Rattle.presence.specs.declared.ServiceState.TheVariants.{Clear, Warned, Surcharged}
 use Rattle.presence.specs.declared.Services.{Services}
@@ -28,21 +24,23 @@ use Rattle.state.specs.Use.{billable, roaming, billed_of, surcharged_of, surchar
 use Rattle.account.specs.declared.Call.{Call}
 use Rattle.account.specs.declared.Call.TheVariants.{Register, Use, TopUp, NextDay, Afford}
 use Rattle.ledger.specs.Journal.{Entry, Opening, charged_of, home_part, zone_part, of_month, monthly_kb, billed_units, last_place, sets_allowance, zone_of_month, zone_since, journal_roamed, journal_basis}
+use Rattle.std.specs.Prelude.{Option, Some, None}
+use Rattle.tariff.specs.declared.Place.{Place}
 
 -- no units: nothing is priced, surcharged or counted
-billable_none : (w : Location) → billable w zero_units ≡ zero_units
+billable_none : (w : Option Place) → billable w zero_units ≡ zero_units
 unfolding billable
-billable_none Nowhere = refl
-billable_none (At Home) = refl
-billable_none (At Zone) = refl
-billable_none (At Elsewhere) = refl
+billable_none None = refl
+billable_none (Some Home) = refl
+billable_none (Some Zone) = refl
+billable_none (Some Elsewhere) = refl
 
-roaming_none : (w : Location) → roaming w zero_units ≡ zero_units
+roaming_none : (w : Option Place) → roaming w zero_units ≡ zero_units
 unfolding roaming
-roaming_none Nowhere = refl
-roaming_none (At Home) = refl
-roaming_none (At Zone) = refl
-roaming_none (At Elsewhere) = refl
+roaming_none None = refl
+roaming_none (Some Home) = refl
+roaming_none (Some Zone) = refl
+roaming_none (Some Elsewhere) = refl
 
 after_first_none : (l r : ℕ) → after_first l r 0 ≡ 0
 unfolding after_first
@@ -58,10 +56,10 @@ billed_none : (p : Plan) (h : ℕ) → billed_of p h zero_units ≡ zero_units
 unfolding billed_of
 billed_none p h = simp billed_kb_none
 
-after_allowance_none : (l : Allowance) (r : ℕ) → after_allowance l r 0 ≡ 0
+after_allowance_none : (l : Option ℕ) (r : ℕ) → after_allowance l r 0 ≡ 0
 unfolding after_allowance
-after_allowance_none NoLimit r = refl
-after_allowance_none (Kilobytes l) r = after_first_none l r
+after_allowance_none None r = refl
+after_allowance_none (Some l) r = after_first_none l r
 
 part_none : (s : ServiceState) → surcharged_of s 0 0 ≡ 0
 unfolding surcharged_of
@@ -69,7 +67,7 @@ part_none Clear = refl
 part_none (Warned k) = refl
 part_none Surcharged = refl
 
-surcharged_none : (s : Services) (l : Allowance) (r : ℕ) → surcharged_units s l r zero_units ≡ zero_units
+surcharged_none : (s : Services) (l : Option ℕ) (r : ℕ) → surcharged_units s l r zero_units ≡ zero_units
 unfolding surcharged_units
 surcharged_none s l r = simp (after_allowance_none, part_none)
 
@@ -98,7 +96,7 @@ pub ⊕-zero : (u : Units) → u ⊕ zero_units ≡ u
 ⊗-zero u = simp mul-zero
 
 -- only a prepaid plan's calls set its allowance
-sets_bundle : (f : Form) (w : Location) (c : Call) → is_prepaid f ≡ false → sets_allowance f w c ≡ false
+sets_bundle : (f : Form) (w : Option Place) (c : Call) → is_prepaid f ≡ false → sets_allowance f w c ≡ false
 unfolding sets_allowance
 sets_bundle f w (Register q) e = rw e
 sets_bundle f w (Use k n) e = refl
@@ -106,7 +104,7 @@ sets_bundle f w (TopUp n) e = rw e
 sets_bundle f w NextDay e = refl
 sets_bundle f w (Afford k) e = refl
 
-sets_prepaid : (f : Form) (w : Location) (c : Call) → is_prepaid f ≡ true → sets_allowance f w c ≡ sets_allowance Prepaid w c
+sets_prepaid : (f : Form) (w : Option Place) (c : Call) → is_prepaid f ≡ true → sets_allowance f w c ≡ sets_allowance Prepaid w c
 unfolding sets_allowance
 sets_prepaid f w (Register q) e = rw e
 sets_prepaid f w (Use k n) e = refl
@@ -114,7 +112,7 @@ sets_prepaid f w (TopUp n) e = rw e
 sets_prepaid f w NextDay e = refl
 sets_prepaid f w (Afford k) e = refl
 
-module _ (i : Entry) (is : List Entry) (e : (w : Location) → charged_of w i.call ≡ zero_units) where
+module _ (i : Entry) (is : List Entry) (e : (w : Option Place) → charged_of w i.call ≡ zero_units) where
   home_none : home_part i ≡ zero_units
   unfolding home_part
   home_none = rw e (billable_none i.place)

@@ -1,9 +1,8 @@
 -- Demand 3 as one claim about whole lists of calls (list-1, list-4, list-9, book-12, half-8, half-9). Why it is put as
 -- it is, and what would be false: docs/DESIGN.md. No choice matters here beside those of the rules that it rests on.
 -- Assumes nothing.
-use Rattle.std.specs.Prelude.{◌+◌, ◌-◌, ◌≡◌, true, List, length, get_or}
+use Rattle.std.specs.Prelude.{◌+◌, ◌-◌, ◌≡◌, true, List, length, get_or, Ok}
 use Rattle.tariff.specs.declared.Plan.{Plan}
-use Rattle.tariff.specs.declared.Verdict.TheVariants.{Accepted}
 use Rattle.account.specs.declared.Account.{Account}
 use Rattle.account.specs.declared.Call.{Call}
 use Rattle.account.specs.Whole.{sound}
@@ -15,7 +14,7 @@ use Rattle.ledger.specs.Journal.{journal_home, journal_surcharges}
 
 -- list-4: Open accepts the plan and hands out the account
 abbrev pub OpensAs : Plan → Account → Type 0
-OpensAs p a = open_answer p ≡ record { answer = Accepted; account = a }
+OpensAs p a = open_answer p ≡ record { answer = Ok tt; account = a }
 
 -- book-1, book-3: the book's items after a list of calls
 unfoldable pub entries_of : Opening → Account → List Call → List Entry

@@ -2,7 +2,7 @@
 -- items, here entries, stand latest first, so that earlier ones are the rest of the list. What it defines anew and what
 -- it shares with the account: docs/DESIGN.md. Choices (docs/DECISIONS.md, "Account" and "Afford"): month's first day,
 -- prepaid; a top-up and marks; in the book. Assumes nothing.
-use Rattle.std.specs.Prelude.{ℕ, zero, suc, ◌+◌, ◌-◌, min, Bool, true, false, not, cond, ◌&&◌, ◌||◌, List, [], ◌∷◌, ◌++◌, take, replicate, eqb, ltb}
+use Rattle.std.specs.Prelude.{ℕ, zero, suc, ◌+◌, ◌-◌, min, Bool, true, false, not, cond, ◌&&◌, ◌||◌, List, [], ◌∷◌, ◌++◌, take, replicate, eqb, ltb, Option, Some, None}
 use Rattle.calendar.specs.Calendar.{month_of}
 use Rattle.tariff.specs.declared.Units.{Units}
 use Rattle.tariff.specs.declared.Kind.TheVariants.{Data, Outgoing, Incoming, Sms}
@@ -11,13 +11,10 @@ use Rattle.tariff.specs.declared.Place.TheVariants.{Home, Zone, Elsewhere}
 use Rattle.tariff.specs.declared.Form.{Form}
 use Rattle.tariff.specs.declared.Form.TheVariants.{Prepaid}
 use Rattle.tariff.specs.declared.Plan.{Plan}
-use Rattle.tariff.specs.declared.Allowance.{Allowance}
 use Rattle.tariff.specs.Units.{each, zero_units, ◌⊕◌, ◌⊗◌}
 use Rattle.tariff.specs.Caps.{built_in, caps_on}
 use Rattle.tariff.specs.Plan.{is_prepaid, credit_allowance, plan_allowance}
 use Rattle.tariff.specs.Charges.{counted_kb, home_charges_of, surcharges_of}
-use Rattle.presence.specs.declared.Location.{Location}
-use Rattle.presence.specs.declared.Location.TheVariants.{Nowhere, At}
 use Rattle.presence.specs.declared.Day.{Day}
 use Rattle.presence.specs.declared.Services.{Services}
 use Rattle.presence.specs.declared.ServiceState.TheVariants.{Clear}
@@ -35,26 +32,26 @@ use Rattle.ledger.specs.Lists.{units_of, amount_of, marks}
 pub record Entry : Type 0 where
   pub call : Call
   pub day : ℕ
-  pub place : Location
+  pub place : Option Place
 
 -- book-3, book-4: the items, and the day and place that the next one gets
 pub record Journal : Type 0 where
   pub entries : List Entry
   pub day : ℕ
-  pub place : Location
+  pub place : Option Place
 
 -- book-2: what the book begins with: plan, day, place, L, service states; paid in, priced units and cap sums, H and R
 -- so far; the day's record so far; the days before, and how many count
 pub record Opening : Type 0 where
   pub plan : Plan
   pub day : ℕ
-  pub place : Location
+  pub place : Option Place
   pub paid : ℕ
   pub billed : Units
   pub basis : Units
   pub monthly : ℕ
   pub roamed : ℕ
-  pub allowance : Allowance
+  pub allowance : Option ℕ
   pub today : Day
   pub days : List Day
   pub logged : ℕ
@@ -65,7 +62,7 @@ unfoldable pub new_opening : Plan → Opening
 new_opening p = record {
   plan = p;
   day = p.start;
-  place = Nowhere;
+  place = None;
   paid = 0;
   billed = zero_units;
   basis = zero_units;
@@ -101,8 +98,8 @@ unfoldable pub new_journal : Opening → Journal
 new_journal o = record { entries = []; day = o.day; place = o.place }
 
 -- book-4: the place after a call
-unfoldable pub place_after : Location → Call → Location
-place_after w (Register q) = At q
+unfoldable pub place_after : Option Place → Call → Option Place
+place_after w (Register q) = Some q
 place_after w (Use k n) = w
 place_after w (TopUp n) = w
 place_after w NextDay = w
@@ -140,20 +137,20 @@ paid_in o [] = o.paid
 paid_in o (e ∷ es) = paid_in o es + amount_of e.call
 
 -- aid: the location is the place
-unfoldable pub at_place : Place → Location → Bool
-at_place p Nowhere = false
-at_place Home (At Home) = true
-at_place Home (At Zone) = false
-at_place Home (At Elsewhere) = false
-at_place Zone (At Home) = false
-at_place Zone (At Zone) = true
-at_place Zone (At Elsewhere) = false
-at_place Elsewhere (At Home) = false
-at_place Elsewhere (At Zone) = false
-at_place Elsewhere (At Elsewhere) = true
+unfoldable pub at_place : Place → Option Place → Bool
+at_place p None = false
+at_place Home (Some Home) = true
+at_place Home (Some Zone) = false
+at_place Home (Some Elsewhere) = false
+at_place Zone (Some Home) = false
+at_place Zone (Some Zone) = true
+at_place Zone (Some Elsewhere) = false
+at_place Elsewhere (Some Home) = false
+at_place Elsewhere (Some Zone) = false
+at_place Elsewhere (Some Elsewhere) = true
 
 -- half-9, half-1, half-2: the units that an item pays for, told by the book itself
-unfoldable pub charged_of : Location → Call → Units
+unfoldable pub charged_of : Option Place → Call → Units
 charged_of w (Register q) = zero_units
 charged_of w (Use Data n) = each n 0 0 0
 charged_of w (Use Outgoing n) = each 0 (cond (at_place Zone w && ltb n 30) 30 n) 0 0
@@ -194,18 +191,18 @@ unfoldable pub journal_home : Opening → List Entry → ℕ
 journal_home o es = home_charges_of o.plan (billed_units o es)
 
 -- book-4: the place after the entries
-unfoldable pub last_place : Opening → List Entry → Location
+unfoldable pub last_place : Opening → List Entry → Option Place
 last_place o [] = o.place
 last_place o (e ∷ es) = e.place
 
 -- book-8: a registration comes into the zone from outside it
-unfoldable pub comes_in : Location → Place → Bool
+unfoldable pub comes_in : Option Place → Place → Bool
 comes_in w Home = false
 comes_in w Zone = not (at_place Zone w)
 comes_in w Elsewhere = false
 
 -- book-8, book-9, mistake-5: a call, made at a place, that sets a prepaid L
-unfoldable pub sets_allowance : Form → Location → Call → Bool
+unfoldable pub sets_allowance : Form → Option Place → Call → Bool
 sets_allowance f w (Register q) = is_prepaid f && comes_in w q
 sets_allowance f w (Use k n) = false
 sets_allowance f w (TopUp n) = is_prepaid f && at_place Zone w
@@ -285,7 +282,7 @@ journal_services o (suc k) es = services_after (min 123 (o.logged + suc k))
 
 -- book-9, mistake-2, mistake-4: L after an entry, from the book's own credit. An entry that sets L has no units, so the
 -- cap sums are those of the earlier entries
-unfoldable pub new_allowance : Opening → Entry → List Entry → Allowance → Units → Allowance
+unfoldable pub new_allowance : Opening → Entry → List Entry → Option ℕ → Units → Option ℕ
 new_allowance o e es old basis =
     cond (sets_allowance o.plan.form (last_place o es) e.call)
     (credit_allowance
@@ -295,7 +292,7 @@ new_allowance o e es old basis =
 
 -- book-9, book-11: L after the entries, and the cap sums of each use's surcharged units
 unfoldable mutual
-  pub journal_allowance : Opening → List Entry → Allowance
+  pub journal_allowance : Opening → List Entry → Option ℕ
   journal_allowance o [] = o.allowance
   journal_allowance o (e ∷ es) = new_allowance o e es (journal_allowance o es) (journal_basis o es)
 

@@ -1,9 +1,8 @@
 -- Lists of calls on an account: which calls are cuts, and what a call adds to its stretch (list-2, list-5, list-8,
 -- half-8). Choice (docs/DECISIONS.md, "Afford"): in the book. Assumes nothing.
-use Rattle.std.specs.Prelude.{ℕ, ◌+◌, Bool, true, false, List}
+use Rattle.std.specs.Prelude.{ℕ, ◌+◌, Bool, true, false, List, Option}
 use Rattle.tariff.specs.declared.Units.{Units}
 use Rattle.tariff.specs.Units.{zero_units, ◌⊕◌, only}
-use Rattle.presence.specs.declared.Location.{Location}
 use Rattle.state.specs.Use.{charged_units}
 use Rattle.account.specs.declared.Account.{Account}
 use Rattle.account.specs.declared.Call.{Call}
@@ -11,6 +10,7 @@ use Rattle.account.specs.declared.Call.TheVariants.{Register, Use, TopUp, NextDa
 use Rattle.account.specs.Calls.{accepts, after}
 use Rattle.machine.specs.Machine as machine
 use Rattle.machine.specs.Machine.{Machine}
+use Rattle.tariff.specs.declared.Place.{Place}
 
 -- list-5, list-8: what a call is by itself: units, seconds as spoken; points paid in; does it mark the day; is it a cut
 pub record Meaning : Type 0 where
@@ -48,7 +48,7 @@ unfoldable pub marks : Call → Bool
 marks c = (meaning c).marks
 
 -- half-8: the outgoing seconds that a call is charged for at a place
-unfoldable pub seconds_of : Location → Call → ℕ
+unfoldable pub seconds_of : Option Place → Call → ℕ
 seconds_of w (Register p) = 0
 seconds_of w (Use k n) = (charged_units w k n).outgoing
 seconds_of w (TopUp n) = 0

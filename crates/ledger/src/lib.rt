@@ -16,6 +16,7 @@ pub fn demand_3_from_sound()
 {}
 
 // A sound account stays sound through every list of calls.
+#[tactic(auto, using(crate::proofs::Claims::sound_stays_sound))]
 pub fn sound_stays_sound()
     ensures { SoundStaysSound }
 {}
@@ -26,16 +27,19 @@ pub fn one_more_than_cuts()
 {}
 
 // The last account that a match compares is the one that the list leads to.
+#[tactic(auto, using(crate::proofs::Claims::end_is_compared))]
 pub fn end_is_compared()
     ensures { EndIsCompared }
 {}
 
 // Equal accounts at the end say nothing of the stretches: two lists that show it.
+#[tactic(auto, using(crate::proofs::Example::end_is_not_enough))]
 pub fn end_is_not_enough()
     ensures { EndIsNotEnough }
 {}
 
 // Equal units in every stretch say nothing of the charged seconds, by which accounts differ: two lists that show it.
+#[tactic(auto, using(crate::proofs::Example::units_are_not_enough))]
 pub fn units_are_not_enough()
     ensures { UnitsAreNotEnough }
 {}

@@ -23,12 +23,6 @@ pub record Lawful (m : Machine) : Type 1 where
   pub absorb_call : (s : m.State) (c : m.Call) → Good s → m.accepts s c ≡ true → m.is_boundary c ≡ false → m.after s c ≡ absorb s (m.units_of s c)
   pub absorb_tells : (s : m.State) (u v : m.Units) → Good s → Fits u → Fits v → absorb s u ≡ absorb s v → u ≡ v
 
-head_eq : {A : Type 0} (x y : A) (xs ys : List A) → x ∷ xs ≡ y ∷ ys → x ≡ y
-head_eq x y xs ys e = cc
-
-tail_eq : {A : Type 0} (x y : A) (xs ys : List A) → x ∷ xs ≡ y ∷ ys → xs ≡ ys
-tail_eq x y xs ys e = cc
-
 -- P holds of every element
 abbrev Every : {A : Type 0} → (A → Type 0) → List A → Type 0
 Every P [] = Unit {0}
@@ -137,15 +131,15 @@ module _ (m : Machine) (l : Lawful m) where
   replay_inj : (s : m.State) (u v : m.Units) (ks : List m.Call) (us vs : List m.Units) → l.Good s → l.Fits u → l.Fits v → Every l.Fits us → Every l.Fits vs
       → length us ≡ length ks → length vs ≡ length ks → replay s u ks us ≡ replay s v ks vs → u ∷ us ≡ v ∷ vs
   unfolding replay
-  replay_inj s u v [] [] [] g f h fs hs p q e = ap (λ (x : m.Units). x ∷ []) (l.absorb_tells s u v g f h (head_eq _ _ _ _ e))
+  replay_inj s u v [] [] [] g f h fs hs p q e = ap (λ (x : m.Units). x ∷ []) (l.absorb_tells s u v g f h (cc))
   replay_inj s u v [] [] (y ∷ vs) g f h fs hs p q e = absurd (omega arith)
   replay_inj s u v [] (x ∷ us) vs g f h fs hs p q e = absurd (omega arith)
   replay_inj s u v (k ∷ ks) [] vs g f h fs hs p q e = absurd (omega arith)
   replay_inj s u v (k ∷ ks) (x ∷ us) [] g f h fs hs p q e = absurd (omega arith)
   replay_inj s u v (k ∷ ks) (x ∷ us) (y ∷ vs) g f h fs hs p q e =
-      let i : u ≡ v = l.absorb_tells s u v g f h (head_eq _ _ _ _ e) in
+      let i : u ≡ v = l.absorb_tells s u v g f h (cc) in
       let t : x ∷ us ≡ y ∷ vs = replay_inj (m.after (l.absorb s u) k) x y ks us vs (l.good_after _ k (l.good_absorb s u g)) fs.0 hs.0 fs.1 hs.1
-      (omega arith) (omega arith) (rw (← i) at (tail_eq _ _ _ _ e)) in
+      (omega arith) (omega arith) (cc) in
       cc
 
   -- the match of two lists from one state
@@ -161,6 +155,6 @@ module _ (m : Machine) (l : Lawful m) where
 
       back : segments m (accepted m s xs) ≡ segments m (accepted m s ys) → snapshots m s xs ≡ snapshots m s ys
       back q = rw (snapshots_replayed s xs g, snapshots_replayed s ys g)
-          (let h : first_segment m (accepted m s xs) ≡ first_segment m (accepted m s ys) = head_eq _ _ _ _ q in
-          let t : later_segments m (accepted m s xs) ≡ later_segments m (accepted m s ys) = tail_eq _ _ _ _ q in
+          (let h : first_segment m (accepted m s xs) ≡ first_segment m (accepted m s ys) = cc in
+          let t : later_segments m (accepted m s xs) ≡ later_segments m (accepted m s ys) = cc in
           rw (e, h, t))

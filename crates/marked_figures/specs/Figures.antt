@@ -1,28 +1,26 @@
 -- The eleven marked figures, six of 1/13, six of 2/13 and seven of 4/13, as one table of tests over the definitions
 -- that the contracts cite (figure-1 to figure-5, promise-3, off-1, off-2, rows-2, fault-1 to fault-3). No choice
 -- matters here beside those of the rules. Assumes nothing.
-use Rattle.std.specs.Prelude.{ℕ, ◌≡◌, Bool, true, false, not, List, [], ◌∷◌, ◌++◌, eqb, length, replicate}
+use Rattle.std.specs.Prelude.{ℕ, ◌≡◌, Bool, true, false, not, List, [], ◌∷◌, ◌++◌, eqb, length, replicate, Option, Some, None, Result, Ok, Err, ⊤}
 use Rattle.tariff.specs.Tests.{all, is_accepted}
 use Rattle.tariff.specs.declared.Form.{Form}
 use Rattle.tariff.specs.declared.Form.TheVariants.{Prepaid, Bundle, Unlimited}
 use Rattle.tariff.specs.declared.Plan.{Plan}
-use Rattle.tariff.specs.declared.Allowance.{Allowance}
-use Rattle.tariff.specs.declared.Allowance.TheVariants.{NoLimit, Kilobytes}
 use Rattle.tariff.specs.Units.{only, zero_units}
 use Rattle.tariff.specs.declared.Kind.TheVariants.{Data}
-use Rattle.tariff.specs.declared.Verdict.{Verdict}
-use Rattle.tariff.specs.declared.Verdict.TheVariants.{Accepted, Refused}
 use Rattle.tariff.specs.Caps.{built_in, caps_on, search_of}
 use Rattle.tariff.specs.Plan.{plan_verdict, open_bundle, credit_allowance, plan_allowance}
 use Rattle.tariff.specs.Charges.{home_charges_of}
 use Rattle.presence.specs.declared.Day.{Day}
 use Rattle.presence.specs.declared.Service.TheVariants.{DataService}
 use Rattle.presence.specs.Window.{prevalent_long, prevalent_short}
+use Rattle.tariff.specs.declared.Refusal.{Refusal}
+use Rattle.tariff.specs.Refusal.{refusal_number}
 
 -- aid: the allowance is this number of kB
-abbrev pub allows : Allowance → ℕ → Bool
-allows NoLimit n = false
-allows (Kilobytes l) n = eqb l n
+abbrev pub allows : Option ℕ → ℕ → Bool
+allows None n = false
+allows (Some l) n = eqb l n
 
 -- aid: a bundle without other prices
 abbrev pub bundle : Form → ℕ → ℕ → Plan
@@ -45,9 +43,9 @@ typed f day price fee volume = record {
 }
 
 -- aid: the verdict is a refusal with this number
-abbrev pub declines : Verdict → ℕ → Bool
-declines Accepted n = false
-declines (Refused m) n = eqb m n
+abbrev pub declines : Result ⊤ Refusal → ℕ → Bool
+declines (Ok tt) n = false
+declines (Err r) n = eqb (refusal_number r) n
 
 -- aid: a day marked zone with kB used there
 abbrev pub zone_kb : ℕ → Day

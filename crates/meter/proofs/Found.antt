@@ -5,21 +5,19 @@ use mathlib.Core.Bool.{Bool, true, false, cond, ◌&&◌, false≢true}
 use mathlib.Core.List.{List, ◌++◌, map}
 use native.Mathlib.Omega.{arith}
 use lib.Dec.{eqb}
-use lib.ListN.{length, drop}
+use lib.ListN.{length, take, drop}
 use borrow.Author.Tests.{eq-eqb, ne_eqb}
 use Rattle.tariff.specs.declared.Kind.{Kind}
 use Rattle.tariff.specs.declared.Plan.{Plan}
-use Rattle.tariff.specs.declared.Verdict.{Verdict}
-use Rattle.tariff.specs.declared.Verdict.TheVariants as Judged
 use Rattle.tariff.specs.Tests.{Reason, verdict_of, is_accepted}
 use Rattle.tariff.specs.declared.Terms.{Terms}
-use Rattle.tariff.specs.declared.PlanAnswer.TheVariants as Planned
 use Rattle.tariff.specs.Plan.{plan_with, plan_reasons, plan_verdict, terms_reasons, plan_of}
 use Rattle.tariff.proofs.Tests.{and_right}
 use Rattle.tariff.proofs.PlanLaws.{known_form, form_known}
 use Rattle.tariff.proofs.Verdicts.{then, verdict-append, then_both}
-use Rattle.state.specs.declared.Answer.{Answer}
-use Rattle.state.specs.declared.Answer.TheVariants.{Done, Charged, UpTo, Refused}
+use Rattle.state.specs.declared.Outcome.{Outcome}
+use Rattle.state.specs.declared.Outcome.TheVariants.{Done, Charged, UpTo}
+use Rattle.state.specs.declared.State.{State}
 use Rattle.state.specs.declared.StateApplied.{StateApplied}
 use Rattle.state.specs.Reasons.{answer_by, is_taken}
 use Rattle.account.specs.declared.Account.{Account}
@@ -30,7 +28,7 @@ use Rattle.account.specs.Calls.{verdict, step}
 use Rattle.account.specs.Answers.{accepted_answer, applied, applied_state, account_of}
 use Rattle.account.proofs.Returns.{use_keeps}
 use Rattle.numbers.specs.Numbers.{terms_from, account_numbers, account_from, is_account}
-use Rattle.numbers.proofs.Back.{account_back, numbers_back}
+use Rattle.numbers.proofs.Back.{account_length, account_back, numbers_back}
 use Rattle.cards.specs.declared.Card.{Card}
 use Rattle.cards.specs.declared.Survey.{Survey}
 use Rattle.cards.specs.Cards.{fresh}
@@ -39,15 +37,15 @@ use Rattle.family.specs.declared.BoxCall.{BoxCall}
 use Rattle.family.specs.declared.BoxCall.TheVariants.{Register, Use, TopUp, NextDay, Afford}
 use Rattle.family.specs.Box.{Box, box_of, plain, beyond, box_step}
 use Rattle.family.specs.Answers.{box_applied, card_reasons, open_reasons, open_verdict, open_box}
-use Rattle.family.specs.Seen.{card_place, cards_fit, card_missing, beyond_number, room_of, answer_within, within_card}
-use Rattle.family.specs.Seen.{declined_state, with_log, seen_applied, seen_change, no_change, found_reasons, seen_verdict}
+use Rattle.family.specs.Seen.{card_place, cards_fit, card_missing, beyond_refusal, room_of, answer_within, within_card}
+use Rattle.family.specs.Seen.{card_read, declined_state, with_log, seen_applied, seen_change, no_change, found_reasons, seen_verdict}
 use Rattle.family.specs.Seen.{opening_change}
 use Rattle.family.proofs.Returns.{seen_0, seen_19, seen_plain}
 use Rattle.family.proofs.Ties.{called_is, cards_are, taken_is, reasons_are, put_back}
 use Rattle.meter.specs.declared.boxes.BoxAnswered.{BoxAnswered}
 use Rattle.meter.specs.declared.boxes.BoxReturned.{BoxReturned}
 use Rattle.meter.specs.Answers.{bad_argument, verdict_code, answer_code, answer_laid}
-use Rattle.meter.specs.Calls.{kind_from, is_place, place_named, kind_with_room, answer_size, settled}
+use Rattle.meter.specs.Calls.{kind_from, is_place, place_named, kind_with_room, answer_size, settled, Settles}
 use Rattle.meter.specs.Boxes.{box_call, is_box_call, box_call_answer, box_call_numbers, box_call_cards}
 use Rattle.meter.specs.Boxes.{box_code, box_numbers, box_cards, box_laid}
 use Rattle.meter.specs.Boxes.{box_open_verdict, box_opens, box_open_code, box_open_numbers, box_open_cards}
@@ -55,22 +53,26 @@ use Rattle.meter.specs.Boxes.{found_answer, found_numbers, found_change, found_r
 use Rattle.meter.specs.Boxes.{found_verdict, found_opens, found_opened}
 use Rattle.meter.specs.Claims.{BoxCallsFollowTheBox, RefusedChangesNoCard}
 use Rattle.meter.proofs.Open.{granted_is, declined_is, granted_opens}
-use Rattle.meter.proofs.Held.{Handed, call_handed, settled_is, few_numbers, room_is}
+use Rattle.meter.proofs.Held.{account_again, joined_length, new_length, settles_of, Handed, call_handed, settled_is, few_numbers, room_is}
+use Rattle.std.specs.Prelude.{Result, Ok, Err, ⊤}
+use Rattle.tariff.specs.declared.Refusal.{Refusal}
+use Rattle.tariff.specs.Refusal.{refusal_number}
+use Rattle.tariff.specs.declared.Refusal.TheVariants.{Unsound, CardPlace}
 
-refused_handed : (a : Account) (n : ℕ) → Handed a (record { answer = Refused n; account = a })
+refused_handed : (a : Account) (n : Refusal) → Handed a (record { answer = Err n; account = a })
 refused_handed a n = record { next_sound = λ h. absurd (false≢true h); same = λ h. refl; sized = λ h. h }
 
 -- a refusal beside the account with the log that a use leaves
-beyond_handed : (a : Account) (k : Kind) (m n : ℕ)
-    → Handed a (record { answer = Refused n; account = account_of a.state (step a (plain-call.Use k m)).log })
+beyond_handed : (a : Account) (k : Kind) (m : ℕ) (n : Refusal)
+    → Handed a (record { answer = Err n; account = account_of a.state (step a (plain-call.Use k m)).log })
 beyond_handed a k m n =
-    subst (λ (l : List ℕ). Handed a (record { answer = Refused n; account = account_of a.state l })) (sym (use_keeps a k m)) (refused_handed a n)
+    subst (λ (l : List ℕ). Handed a (record { answer = Err n; account = account_of a.state l })) (sym (use_keeps a k m)) (refused_handed a n)
 
-taken_within : (x : Answer) (r : ℕ) → is_taken (answer_within x r) ≡ is_taken x
-taken_within Done r = refl
-taken_within (Charged c) r = refl
-taken_within (UpTo n) r = refl
-taken_within (Refused n) r = refl
+taken_within : (x : Result Outcome Refusal) (r : ℕ) → is_taken (answer_within x r) ≡ is_taken x
+taken_within (Ok Done) r = refl
+taken_within (Ok (Charged c)) r = refl
+taken_within (Ok (UpTo n)) r = refl
+taken_within (Err n) r = refl
 
 within_handed : (a : Account) (d : Card) (c : BoxCall)
     → Handed a (with_log (applied a (plain c)).account (within_card a.state (applied_state (applied a (plain c))) d c))
@@ -79,7 +81,7 @@ within_handed a d (Register p) = call_handed a (plain-call.Register p)
 within_handed a d (Use i k n) = go (beyond d k n)
   where
     go : (t : Bool) → Handed a (with_log (applied a (plain-call.Use k n)).account
-        (cond t (declined_state a.state (beyond_number (applied a (plain-call.Use k n)).answer)) (applied_state (applied a (plain-call.Use k n)))))
+        (cond t (declined_state a.state (beyond_refusal (applied a (plain-call.Use k n)).answer)) (applied_state (applied a (plain-call.Use k n)))))
     go true = unfold applied in beyond_handed a k n _
     go false = call_handed a (plain-call.Use k n)
 within_handed a d (TopUp n) = call_handed a (plain-call.TopUp n)
@@ -94,13 +96,13 @@ pub seen_handed : (a : Account) (s : Survey) (c : BoxCall) → Handed a (seen_ap
 seen_handed a s c = go (cards_fit a.state s) (card_missing s c) refl refl
   where
     go : (f m : Bool) → cards_fit a.state s ≡ f → card_missing s c ≡ m → Handed a (seen_applied a s c)
-    go false m e₁ e₂ = subst (Handed a) (seen_0 a s c e₁) (refused_handed a 0)
-    go true true e₁ e₂ = subst (Handed a) (seen_19 a s c e₁ e₂) (refused_handed a (cond (sound a) 19 0))
-    go true false e₁ e₂ = subst (Handed a) (seen_plain a s c e₁ e₂) (within_handed a s.card c)
+    go false m e₁ e₂ = subst (Handed a) (seen_0 a s c e₁) (refused_handed a Unsound)
+    go true true e₁ e₂ = subst (Handed a) (seen_19 a s c e₁ e₂) (refused_handed a (cond (sound a) CardPlace Unsound))
+    go true false e₁ e₂ = subst (Handed a) (seen_plain a s c e₁ e₂) (within_handed a (card_read s) c)
 
 -- numbers that stand for no account
 pub found_none : (xs : List ℕ) (s : Survey) (c : BoxCall) → is_account xs ≡ false
-    → ◌≡◌ {A = BoxAnswered} (record { answer = Refused 0; change = no_change (card_place c) s })
+    → ◌≡◌ {A = BoxAnswered} (record { answer = Err Unsound; change = no_change (card_place c) s })
     (record { answer = found_answer xs s c; change = found_change xs s c })
     × (xs ≡ found_numbers xs s c)
 unfolding found_answer found_change found_numbers
@@ -119,6 +121,26 @@ found_done xs l s c x h e f = (
       ∙ settled_is xs l (seen_applied (account_from xs) s c) h (seen_handed (account_from xs) s c) f),
 )
 
+-- the same from the state and the log's part that the call was made on
+module _ (xs l m : List ℕ) (s : Survey) (c : BoxCall) (t : State) (x : StateApplied) (h : is_account xs ≡ true) (e : t ≡ (account_from xs).state)
+    (f : m ≡ take 1599 xs) (g : x ≡ applied_state (seen_applied (account_of t m) s c)) (k : l ≡ (seen_applied (account_of t m) s c).account.log) where
+  seen_made : x ≡ applied_state (seen_applied (account_from xs) s c)
+  seen_made = g ∙ ap (λ (a : Account). applied_state (seen_applied a s c)) (account_again xs t m e f)
+
+  seen_log : l ≡ (seen_applied (account_from xs) s c).account.log
+  seen_log = k ∙ ap (λ (a : Account). (seen_applied a s c).account.log) (account_again xs t m e f)
+
+  pub seen_settles : (length (l ++ drop 1599 xs) ≡ 1649) × Settles x
+  seen_settles =
+      let y = seen_applied (account_from xs) s c in
+      let d = seen_handed (account_from xs) s c in
+      (joined_length l xs (new_length xs y l h d seen_log) (account_length xs h), settles_of x (account_from xs) y d seen_made)
+
+  pub seen_done : ◌≡◌ {A = BoxAnswered} (record { answer = x.answer; change = seen_change x s c })
+      (record { answer = found_answer xs s c; change = found_change xs s c })
+      × (settled x (l ++ drop 1599 xs) ≡ found_numbers xs s c)
+  seen_done = found_done xs l s c x h seen_made seen_log
+
 -- how many numbers a call's answer puts
 abbrev size_for : BoxCall → ℕ
 size_for (Register p) = 0
@@ -127,15 +149,15 @@ size_for (TopUp n) = 0
 size_for NextDay = 0
 size_for (Afford i k) = 1
 
-size_by : (v : Verdict) (x : Answer) (n : ℕ) → answer_size x ≤ n → answer_size (answer_by v x) ≤ n
-size_by Judged.Accepted x n h = h
-size_by (Judged.Refused m) x n h = omega arith
+size_by : (v : Result ⊤ Refusal) (x : Outcome) (n : ℕ) → answer_size (Ok x) ≤ n → answer_size (answer_by v x) ≤ n
+size_by (Ok tt) x n h = h
+size_by (Err m) x n h = omega arith
 
-size_within : (x : Answer) (r : ℕ) → answer_size (answer_within x r) ≡ answer_size x
-size_within Done r = refl
-size_within (Charged c) r = refl
-size_within (UpTo n) r = refl
-size_within (Refused n) r = refl
+size_within : (x : Result Outcome Refusal) (r : ℕ) → answer_size (answer_within x r) ≡ answer_size x
+size_within (Ok Done) r = refl
+size_within (Ok (Charged c)) r = refl
+size_within (Ok (UpTo n)) r = refl
+size_within (Err n) r = refl
 
 within_size : (a : Account) (d : Card) (c : BoxCall)
     → answer_size (within_card a.state (applied_state (applied a (plain c))) d c).answer ≤ size_for c
@@ -155,13 +177,13 @@ seen_size a s c = go (cards_fit a.state s) (card_missing s c) refl refl
     go false m e₁ e₂ = subst (λ (x : Applied). answer_size x.answer ≤ size_for c) (seen_0 a s c e₁) (omega arith)
     go true true e₁ e₂ = subst (λ (x : Applied). answer_size x.answer ≤ size_for c) (seen_19 a s c e₁ e₂) (omega arith)
     go true false e₁ e₂ =
-        subst (λ (x : Applied). answer_size x.answer ≤ size_for c) (seen_plain a s c e₁ e₂) (within_size a s.card c)
+        subst (λ (x : Applied). answer_size x.answer ≤ size_for c) (seen_plain a s c e₁ e₂) (within_size a (card_read s) c)
 
 found_size : (xs : List ℕ) (s : Survey) (c : BoxCall) → answer_size (found_answer xs s c) ≤ size_for c
 unfolding found_answer
 found_size xs s c = go (is_account xs)
   where
-    go : (b : Bool) → answer_size (cond b (seen_applied (account_from xs) s c).answer (Refused 0)) ≤ size_for c
+    go : (b : Bool) → answer_size (cond b (seen_applied (account_from xs) s c).answer (Err Unsound)) ≤ size_for c
     go true = seen_size (account_from xs) s c
     go false = omega arith
 
@@ -190,7 +212,7 @@ module _ (xs : List ℕ) (cs : List Card) (c : BoxCall) where
 
   answer_is : found_answer xs seen c ≡ box_call_answer xs cs c
   unfolding found_answer box_call_answer
-  answer_is = ap (λ (x : Applied). cond (is_account xs) x.answer (Refused 0)) (called_is (account_from xs) cs c)
+  answer_is = ap (λ (x : Applied). cond (is_account xs) x.answer (Err Unsound)) (called_is (account_from xs) cs c)
 
   numbers_are : found_numbers xs seen c ≡ box_call_numbers xs cs c
   unfolding found_numbers box_call_numbers
@@ -226,7 +248,7 @@ module _ (xs : List ℕ) (cs : List Card) (c : BoxCall) where
 
   pub called_laid : (t : Bool) (ys : List ℕ) → cond t (answer_laid (found_answer xs seen c) ys) ys ≡ box_laid xs cs c t ys
   unfolding box_laid
-  called_laid t ys = ap (λ (x : Answer). cond t (answer_laid x ys) ys) answer_is
+  called_laid t ys = ap (λ (x : Result Outcome Refusal). cond t (answer_laid x ys) ys) answer_is
 
 -- opening under a granted plan
 module _ (xs : List ℕ) (s : Survey) (ts : List ℕ) where
@@ -241,9 +263,9 @@ module _ (xs : List ℕ) (s : Survey) (ts : List ℕ) where
   unfolding seen_verdict plan_verdict
   seen_by p h = verdict-append (plan_reasons p) (found_reasons s) ∙ go (verdict_of (plan_reasons p)) h
     where
-      go : (v : Verdict) → is_accepted v ≡ true → then v (verdict_of (found_reasons s)) ≡ verdict_of (found_reasons s)
-      go Judged.Accepted e = refl
-      go (Judged.Refused n) e = absurd (false≢true e)
+      go : (v : Result ⊤ Refusal) → is_accepted v ≡ true → then v (verdict_of (found_reasons s)) ≡ verdict_of (found_reasons s)
+      go (Ok tt) e = refl
+      go (Err n) e = absurd (false≢true e)
 
   -- the cases of opening
   pub open_bad : (length ts ≡ 7 → ⊥)
@@ -258,16 +280,16 @@ module _ (xs : List ℕ) (s : Survey) (ts : List ℕ) where
   unfolding found_opened found_opens found_verdict
   open_0 e h = (rw (eq-eqb _ _ e, ne_eqb _ _ h) refl, rw (eq-eqb _ _ e, ne_eqb _ _ h) refl)
 
-  pub open_declined : (n : ℕ) → length ts ≡ 7 → length xs ≡ 1649 → plan_of terms ≡ Planned.Refused n
-      → ◌≡◌ {A = BoxReturned} (record { code = n; change = no_change 0 s }) (found_opened xs s ts)
+  pub open_declined : (n : Refusal) → length ts ≡ 7 → length xs ≡ 1649 → plan_of terms ≡ Err n
+      → ◌≡◌ {A = BoxReturned} (record { code = refusal_number n; change = no_change 0 s }) (found_opened xs s ts)
       × (xs ≡ cond (found_opens xs s ts) (account_numbers (opened (plan_with terms))) xs)
   unfolding found_opened found_opens
   open_declined n e f g =
-      let v : found_verdict xs s ts ≡ Judged.Refused n
-      = found_by f ∙ ap (λ (w : Verdict). then w (verdict_of (found_reasons s))) (declined_is terms n g) in
+      let v : found_verdict xs s ts ≡ Err n
+      = found_by f ∙ ap (λ (w : Result ⊤ Refusal). then w (verdict_of (found_reasons s))) (declined_is terms n g) in
       (rw (eq-eqb _ _ e, v) refl, rw (eq-eqb _ _ e, v) refl)
 
-  pub open_granted_is : (p : Plan) (zs : List ℕ) → length ts ≡ 7 → length xs ≡ 1649 → plan_of terms ≡ Planned.Granted p
+  pub open_granted_is : (p : Plan) (zs : List ℕ) → length ts ≡ 7 → length xs ≡ 1649 → plan_of terms ≡ Ok p
       → zs ≡ cond (is_accepted (seen_verdict p s)) (account_numbers (opened p)) xs
       → ◌≡◌ {A = BoxReturned} (record { code = verdict_code (seen_verdict p s); change = opening_change (seen_verdict p s) s }) (found_opened xs s ts)
       × (zs ≡ cond (found_opens xs s ts) (account_numbers (opened (plan_with terms))) xs)
@@ -275,20 +297,20 @@ module _ (xs : List ℕ) (s : Survey) (ts : List ℕ) where
   open_granted_is p zs e f g z =
       let k = granted_is terms p g in
       let v : seen_verdict p s ≡ found_verdict xs s ts
-      = seen_by p (granted_opens terms p g) ∙ sym (found_by f ∙ ap (λ (w : Verdict). then w (verdict_of (found_reasons s))) k.0) in (
-        rw (eq-eqb _ _ e) (ap (λ (w : Verdict). record { code = verdict_code w; change = opening_change w s }) v ∙ same_change (found_verdict xs s ts)),
+      = seen_by p (granted_opens terms p g) ∙ sym (found_by f ∙ ap (λ (w : Result ⊤ Refusal). then w (verdict_of (found_reasons s))) k.0) in (
+        rw (eq-eqb _ _ e) (ap (λ (w : Result ⊤ Refusal). record { code = verdict_code w; change = opening_change w s }) v ∙ same_change (found_verdict xs s ts)),
         rw (eq-eqb _ _ e) (z ∙ (λ j. cond (is_accepted (v j)) (account_numbers (opened (sym k.1 j))) xs)),
       )
     where
-      same_change : (w : Verdict) → ◌≡◌ {A = BoxReturned} (record { code = verdict_code w; change = opening_change w s })
-          (record { code = verdict_code w; change = cond (is_accepted w) (opening_change Judged.Accepted s) (no_change 0 s) })
-      same_change Judged.Accepted = refl
-      same_change (Judged.Refused n) = refl
+      same_change : (w : Result ⊤ Refusal) → ◌≡◌ {A = BoxReturned} (record { code = verdict_code w; change = opening_change w s })
+          (record { code = verdict_code w; change = cond (is_accepted w) (opening_change (Ok tt) s) (no_change 0 s) })
+      same_change (Ok tt) = refl
+      same_change (Err n) = refl
 
 -- two lists of reasons accept where each does
-accept_both : (v w : Verdict) → is_accepted v ≡ true → is_accepted w ≡ true → is_accepted (then v w) ≡ true
-accept_both Judged.Accepted w e f = f
-accept_both (Judged.Refused n) w e f = e
+accept_both : (v w : Result ⊤ Refusal) → is_accepted v ≡ true → is_accepted w ≡ true → is_accepted (then v w) ≡ true
+accept_both (Ok tt) w e f = f
+accept_both (Err n) w e f = e
 
 -- opening, of the cards themselves
 module _ (xs : List ℕ) (cs : List Card) (ts : List ℕ) where
@@ -297,15 +319,15 @@ module _ (xs : List ℕ) (cs : List Card) (ts : List ℕ) where
 
   judged : found_verdict xs first ts ≡ box_open_verdict xs cs ts
   unfolding found_verdict box_open_verdict
-  judged = ap (λ (rs : List Reason). cond (eqb (length xs) 1649) (verdict_of (terms_reasons (terms_from ts) ++ rs)) (Judged.Refused 0)) (reasons_are cs)
+  judged = ap (λ (rs : List Reason). cond (eqb (length xs) 1649) (verdict_of (terms_reasons (terms_from ts) ++ rs)) (Err Unsound)) (reasons_are cs)
 
   opens_is : found_opens xs first ts ≡ box_opens xs cs ts
   unfolding found_opens box_opens
-  opens_is = ap (λ (v : Verdict). eqb (length ts) 7 && is_accepted v) judged
+  opens_is = ap (λ (v : Result ⊤ Refusal). eqb (length ts) 7 && is_accepted v) judged
 
   pub opened_code : (found_opened xs first ts).code ≡ box_open_code xs cs ts
   unfolding found_opened box_open_code
-  opened_code = ap (λ (v : Verdict). cond (eqb (length ts) 7) (verdict_code v) bad_argument) judged
+  opened_code = ap (λ (v : Result ⊤ Refusal). cond (eqb (length ts) 7) (verdict_code v) bad_argument) judged
 
   -- an accepted opening is that of the plan that the numbers stand for
   open_too : box_opens xs cs ts ≡ true → is_accepted (open_verdict (plan_with (terms_from ts)) cs) ≡ true
@@ -320,7 +342,7 @@ module _ (xs : List ℕ) (cs : List Card) (ts : List ℕ) where
       ap is_accepted (verdict-append (plan_reasons (plan_with (terms_from ts))) (card_reasons cs))
       ∙ accept_both (verdict_of (plan_reasons (plan_with (terms_from ts)))) (verdict_of (card_reasons cs)) p k.1
     where
-      inner : (b : Bool) → is_accepted (cond b (verdict_of (terms_reasons (terms_from ts) ++ card_reasons cs)) (Judged.Refused 0)) ≡ true
+      inner : (b : Bool) → is_accepted (cond b (verdict_of (terms_reasons (terms_from ts) ++ card_reasons cs)) (Err Unsound)) ≡ true
           → is_accepted (verdict_of (terms_reasons (terms_from ts) ++ card_reasons cs)) ≡ true
       inner true e = e
       inner false e = absurd (false≢true e)
@@ -336,9 +358,9 @@ module _ (xs : List ℕ) (cs : List Card) (ts : List ℕ) where
 
   pub opened_cards : changed (found_opened xs first ts).change cs ≡ box_open_cards xs cs ts
   unfolding found_opened box_open_cards open_box changed
-  opened_cards = ap (λ (b : Bool). changed (cond b (opening_change Judged.Accepted first) (no_change 0 first)) cs) opens_is ∙ go (box_opens xs cs ts) refl
+  opened_cards = ap (λ (b : Bool). changed (cond b (opening_change (Ok tt) first) (no_change 0 first)) cs) opens_is ∙ go (box_opens xs cs ts) refl
     where
-      go : (b : Bool) → box_opens xs cs ts ≡ b → changed (cond b (opening_change Judged.Accepted first) (no_change 0 first)) cs
+      go : (b : Bool) → box_opens xs cs ts ≡ b → changed (cond b (opening_change (Ok tt) first) (no_change 0 first)) cs
           ≡ cond b (open_box (plan_with (terms_from ts)) cs).box.cards cs
       go true e = rw (open_too e) (ap (map fresh) (put_back cs 0))
       go false e = put_back cs 0
@@ -373,14 +395,14 @@ refused_changes_no_card = record {
 }
   where
     numbers : (xs : List ℕ) (cs : List Card) (c : BoxCall) (t : Bool) → is_account xs ≡ t
-        → is_taken (cond t (box_applied (box_of (account_from xs) cs) c).answer (Refused 0)) ≡ false
+        → is_taken (cond t (box_applied (box_of (account_from xs) cs) c).answer (Err Unsound)) ≡ false
         → cond t (account_numbers (box_applied (box_of (account_from xs) cs) c).account) xs ≡ xs
     numbers xs cs c false e k = refl
     numbers xs cs c true e k =
         ap (λ (x : Box). account_numbers x.account) (box_handed (box_of (account_from xs) cs) c k) ∙ (numbers_back xs e).back
 
     cards : (xs : List ℕ) (cs : List Card) (c : BoxCall) (t : Bool)
-        → is_taken (cond t (box_applied (box_of (account_from xs) cs) c).answer (Refused 0)) ≡ false
+        → is_taken (cond t (box_applied (box_of (account_from xs) cs) c).answer (Err Unsound)) ≡ false
         → cond t (box_step (box_of (account_from xs) cs) c).cards cs ≡ cs
     cards xs cs c false k = refl
     cards xs cs c true k = ap (λ (x : Box). x.cards) (box_same (box_of (account_from xs) cs) c k)

@@ -1,7 +1,7 @@
 -- Calls on the account that numbers stand for. Assumes nothing.
-use Prim.Native.Nat.{ℕ, ◌+◌, ◌≤◌}
+use Prim.Native.Nat.{ℕ, ◌≤◌}
 use mathlib.Core.Path.{◌≡◌, refl, sym, ◌∙◌, ap}
-use mathlib.Core.Bool.{Bool, true, false, cond, ◌&&◌, false≢true}
+use mathlib.Core.Bool.{Bool, true, false, cond, false≢true}
 use mathlib.Core.List.{List, ◌++◌}
 use native.Mathlib.Omega.{arith}
 use lib.Dec.{leb}
@@ -10,12 +10,10 @@ use lib.Seq.{take_at, length-take-le}
 use borrow.Author.Tests.{leb-true}
 use Rattle.tariff.proofs.Tests.{and_right}
 use Rattle.tariff.specs.declared.Kind.{Kind}
-use Rattle.tariff.specs.declared.Verdict.{Verdict}
-use Rattle.tariff.specs.declared.Verdict.TheVariants as Judged
 use Rattle.tariff.specs.Tests.{is_accepted}
 use Rattle.state.specs.declared.State.{State}
-use Rattle.state.specs.declared.Answer.{Answer}
-use Rattle.state.specs.declared.Answer.TheVariants.{Done, Charged, UpTo, Refused}
+use Rattle.state.specs.declared.Outcome.{Outcome}
+use Rattle.state.specs.declared.Outcome.TheVariants.{Done, Charged, UpTo}
 use Rattle.state.specs.declared.StateApplied.{StateApplied}
 use Rattle.state.specs.Reasons.{answer_by, is_taken}
 use Rattle.account.specs.declared.Account.{Account}
@@ -30,10 +28,12 @@ use Rattle.account.proofs.Claimed.{refused_changes_nothing}
 use Rattle.account.proofs.Returns.{unsound, step_size}
 use Rattle.numbers.specs.Numbers.{state_numbers, log_part, rest_part, account_numbers, account_from, is_account, Writable}
 use Rattle.numbers.proofs.Laid.{parts_join}
-use Rattle.numbers.proofs.Back.{account_back, numbers_back}
-use Rattle.meter.specs.Answers.{laid}
+use Rattle.numbers.proofs.Back.{account_length, account_back, numbers_back}
 use Rattle.meter.specs.Claims.{CallsFollowTheAccount, RefusedChangesNoNumber}
 use Rattle.meter.specs.Calls.{call_answer, call_numbers, sound_numbers, kind_with_room, answer_size, settled, Settles}
+use Rattle.std.specs.Prelude.{Result, Ok, Err, ⊤}
+use Rattle.tariff.specs.declared.Refusal.{Refusal}
+use Rattle.tariff.specs.declared.Refusal.TheVariants.{Unsound}
 
 -- the log's part, and another log before the same rest
 pub prefix_length : (xs : List ℕ) → length xs ≡ 1649 → length (take 1599 xs) ≡ 1599
@@ -50,12 +50,12 @@ log_joined : (xs : List ℕ) → log_part xs ++ drop 1599 xs ≡ xs
 log_joined xs = unfold rest_part in parts_join xs
 
 -- the account from its state and the log's part
-pub account_again : (xs : List ℕ) (s : State) → s ≡ (account_from xs).state → account_of s (take 1599 xs) ≡ account_from xs
+pub account_again : (xs : List ℕ) (s : State) (l : List ℕ) → s ≡ (account_from xs).state → l ≡ take 1599 xs → account_of s l ≡ account_from xs
 unfolding account_from log_part
-account_again xs s e = λ j. record { state = e j; log = take 1599 xs }
+account_again xs s l e f = λ j. record { state = e j; log = f j }
 
 -- numbers that stand for no account
-pub no_account : (xs : List ℕ) (c : Call) → is_account xs ≡ false → (Refused 0 ≡ call_answer xs c) × (xs ≡ call_numbers xs c)
+pub no_account : (xs : List ℕ) (c : Call) → is_account xs ≡ false → (Err Unsound ≡ call_answer xs c) × (xs ≡ call_numbers xs c)
 unfolding call_answer call_numbers
 no_account xs c e = (rw e refl, rw e refl)
 
@@ -64,13 +64,13 @@ taken_is : (a : Account) (c : Call) → is_taken (applied a c).answer ≡ accept
 unfolding applied accepts
 taken_is a c = go (verdict a c) c
   where
-    go : (v : Verdict) (c : Call) → is_taken (answer_by v (accepted_answer a c)) ≡ is_accepted v
-    go (Judged.Refused n) c = refl
-    go Judged.Accepted (Register p) = unfold accepted_answer in refl
-    go Judged.Accepted (Use k n) = unfold accepted_answer in refl
-    go Judged.Accepted (TopUp n) = unfold accepted_answer in refl
-    go Judged.Accepted NextDay = unfold accepted_answer in refl
-    go Judged.Accepted (Afford k) = unfold accepted_answer in refl
+    go : (v : Result ⊤ Refusal) (c : Call) → is_taken (answer_by v (accepted_answer a c)) ≡ is_accepted v
+    go (Err n) c = refl
+    go (Ok tt) (Register p) = unfold accepted_answer in refl
+    go (Ok tt) (Use k n) = unfold accepted_answer in refl
+    go (Ok tt) (TopUp n) = unfold accepted_answer in refl
+    go (Ok tt) NextDay = unfold accepted_answer in refl
+    go (Ok tt) (Afford k) = unfold accepted_answer in refl
 
 -- a sound account's state has numbers that fit
 pub writable : (a : Account) → Sound a → Writable a.state
@@ -148,53 +148,55 @@ done_of xs l c x h e f =
           ∙ settled_is xs l (applied (account_from xs) c) h k (f ∙ (unfold applied in refl))),
     )
 
+-- the same from the state and the log's part that the call was made on
+module _ (xs l m : List ℕ) (c : Call) (s : State) (x : StateApplied) (h : is_account xs ≡ true) (e : s ≡ (account_from xs).state)
+    (f : m ≡ take 1599 xs) (g : x ≡ applied_state (applied (account_of s m) c)) (k : l ≡ (step (account_of s m) c).log) where
+  call_made : x ≡ applied_state (applied (account_from xs) c)
+  call_made = g ∙ ap (λ (a : Account). applied_state (applied a c)) (account_again xs s m e f)
+
+  log_made : l ≡ (step (account_from xs) c).log
+  log_made = k ∙ ap (λ (a : Account). (step a c).log) (account_again xs s m e f)
+
+  pub call_settles : (length (l ++ drop 1599 xs) ≡ 1649) × Settles x
+  unfolding applied
+  call_settles =
+      let y = applied (account_from xs) c in
+      let d = call_handed (account_from xs) c in
+      (joined_length l xs (new_length xs y l h d log_made) (account_length xs h), settles_of x (account_from xs) y d call_made)
+
+  pub call_done : (x.answer ≡ call_answer xs c) × (settled x (l ++ drop 1599 xs) ≡ call_numbers xs c)
+  call_done = done_of xs l c x h call_made log_made
+
 -- of a call that leaves the numbers, the answer
-pub answered : (xs : List ℕ) (c : Call) (x : Answer) → is_account xs ≡ true → x ≡ (applied (account_from xs) c).answer → x ≡ call_answer xs c
+pub answered : (xs : List ℕ) (c : Call) (x : Result Outcome Refusal) → is_account xs ≡ true → x ≡ (applied (account_from xs) c).answer → x ≡ call_answer xs c
 unfolding call_answer
 answered xs c x h e = rw h e
 
 -- room for what is put
-pub few_numbers : (x : Answer) → answer_size x ≤ 5
-few_numbers Done = omega arith
-few_numbers (Charged c) = omega arith
-few_numbers (UpTo n) = omega arith
-few_numbers (Refused n) = omega arith
+pub few_numbers : (x : Result Outcome Refusal) → answer_size x ≤ 5
+few_numbers (Ok Done) = omega arith
+few_numbers (Ok (Charged c)) = omega arith
+few_numbers (Ok (UpTo n)) = omega arith
+few_numbers (Err n) = omega arith
 
 pub afford_one : (xs : List ℕ) (k : Kind) → answer_size (call_answer xs (Afford k)) ≤ 1
 unfolding call_answer applied accepted_answer
 afford_one xs k = go (is_account xs) (verdict (account_from xs) (Afford k))
   where
-    go : (b : Bool) (v : Verdict) → answer_size (cond b (answer_by v (UpTo (afford_of (account_from xs) k))) (Refused 0)) ≤ 1
+    go : (b : Bool) (v : Result ⊤ Refusal) → answer_size (cond b (answer_by v (UpTo (afford_of (account_from xs) k))) (Err Unsound)) ≤ 1
     go false v = omega arith
-    go true Judged.Accepted = omega arith
-    go true (Judged.Refused n) = omega arith
+    go true (Ok tt) = omega arith
+    go true (Err n) = omega arith
 
 -- soundness of what numbers stand for
-pub sound_no : (xs : List ℕ) → is_account xs ≡ false → false ≡ sound_numbers xs
-unfolding sound_numbers
-sound_no xs e = rw e refl
-
 pub sound_by : (xs : List ℕ) (b : Bool) → is_account xs ≡ true → b ≡ sound (account_from xs) → b ≡ sound_numbers xs
 unfolding sound_numbers
 sound_by xs b h e = rw h e
 
--- a known kind with room for the answer, or not
-pub has_room : (kind size : ℕ) (ys : List ℕ) → (leb kind 3 && leb size (length ys)) ≡ true → kind_with_room kind size ys ≡ true
-unfolding kind_with_room
-has_room kind size ys h = h
-
-pub no_room : (kind size : ℕ) (ys : List ℕ) → (leb kind 3 && leb size (length ys)) ≡ false → kind_with_room kind size ys ≡ false
-unfolding kind_with_room
-no_room kind size ys h = h
-
+-- a known kind with room for the answer
 pub room_is : (kind size : ℕ) (ys : List ℕ) → kind_with_room kind size ys ≡ true → size ≤ length ys
 unfolding kind_with_room
 room_is kind size ys h = leb-true size (length ys) (and_right (leb kind 3) (leb size (length ys)) h)
-
--- numbers put from the first place on
-pub first_laid : (s ns zs : List ℕ) → zs ≡ take 0 s ++ (ns ++ drop (0 + length ns) s) → zs ≡ laid ns s
-unfolding laid
-first_laid s ns zs e = let z : 0 + length ns ≡ length ns = omega arith in e ∙ rw z refl
 
 -- the library's calls are the account's
 pub calls_follow : CallsFollowTheAccount
@@ -215,7 +217,7 @@ pub refused_changes_no_number : RefusedChangesNoNumber
 unfolding call_answer call_numbers
 refused_changes_no_number xs c h = go (is_account xs) refl h
   where
-    go : (b : Bool) → is_account xs ≡ b → is_taken (cond b (applied (account_from xs) c).answer (Refused 0)) ≡ false → cond b (account_numbers (applied (account_from xs) c).account) xs ≡ xs
+    go : (b : Bool) → is_account xs ≡ b → is_taken (cond b (applied (account_from xs) c).answer (Err Unsound)) ≡ false → cond b (account_numbers (applied (account_from xs) c).account) xs ≡ xs
     go false e k = refl
     go true e k =
         let n : accepts (account_from xs) c ≡ false = sym (taken_is (account_from xs) c) ∙ k in

@@ -1,18 +1,12 @@
 -- The calls of a file on the account that numbers stand for, and what files answer. Assumes nothing.
-use Prim.Native.Nat.{ℕ, ◌≤◌}
+use Prim.Native.Nat.{ℕ}
 use mathlib.Core.Path.{◌≡◌, refl, sym, ◌∙◌, ap}
-use mathlib.Core.Bool.{true, false, ◌&&◌}
+use mathlib.Core.Bool.{true}
 use mathlib.Core.List.{List, [], ◌∷◌, ◌++◌}
-use lib.ListN.{length, drop}
-use lib.Dec.{leb, eqb}
-use borrow.Author.Tests.{leb-true, eqb-true}
+use lib.ListN.{length, take, drop}
 use Rattle.tariff.specs.declared.Plan.{Plan}
-use Rattle.tariff.specs.declared.PlanAnswer.TheVariants as Planned
-use Rattle.tariff.specs.declared.Verdict.TheVariants.{Accepted}
 use Rattle.tariff.specs.Tests.{is_accepted}
-use Rattle.tariff.specs.declared.Allowance.{Allowance}
-use Rattle.tariff.specs.declared.Allowance.TheVariants.{NoLimit}
-use Rattle.tariff.specs.Plan.{plan_verdict, plan_of}
+use Rattle.tariff.specs.Plan.{plan_verdict}
 use Rattle.tariff.proofs.Tests.{and_left, and_right}
 use Rattle.state.specs.Sound.{allowance_fits}
 use Rattle.account.specs.declared.Account.{Account}
@@ -26,33 +20,33 @@ use Rattle.account.proofs.Returns.{step_size}
 use Rattle.machine.specs.Machine as machine
 use Rattle.ledger.specs.Lists.{run}
 use Rattle.ledger.proofs.Claims.{sound_stays_sound}
-use Rattle.sections.specs.Find.{find_verdict, part_of, part_start, part_length, section_of, section_start, part_extent}
+use Rattle.sections.specs.Find.{just_once, find_verdict, part_of, part_start, part_length, section_of, section_start, part_extent}
 use Rattle.sections.specs.declared.Extent.{Extent}
 use Rattle.sections.proofs.Finding.{found_both, section_is, length_part}
 use Rattle.sections.proofs.Table.{keeps}
 use Rattle.tariff.proofs.Verdicts.{accepted_is}
-use Rattle.tripfile.specs.declared.Read.{Read}
-use Rattle.tripfile.specs.declared.Read.TheVariants as Told
+use Rattle.tripfile.specs.declared.Trip.{Trip}
 use Rattle.tripfile.specs.Bodies as File
 use Rattle.tripfile.specs.Reading.{read_of, calls_of}
-use Rattle.tripfile.specs.declared.Written.{Written}
-use Rattle.tripfile.specs.Writing.{written_of, buffer_of}
 use Rattle.tripfile.proofs.Held.{holds}
-use Rattle.reader.specs.declared.Step.{Step}
-use Rattle.reader.specs.Calls.{position_after}
 use Rattle.replay.specs.declared.Progress.{Progress}
 use Rattle.replay.specs.declared.Replayed.{Replayed}
 use Rattle.replay.specs.Replay.{known, coded_calls, replay_of, run_section, replayed_of}
 use Rattle.report.specs.declared.Figures.{Figures}
-use Rattle.report.specs.declared.Report.{Report}
-use Rattle.report.specs.declared.Report.TheVariants as Reported
 use Rattle.report.specs.Statement.{figures_with, figures_of, trip_run, report_on, report_of}
-use Rattle.numbers.specs.Numbers.{terms_from, state_numbers, log_part, account_numbers, account_from, is_account, Writable}
+use Rattle.numbers.specs.Numbers.{state_numbers, log_part, account_numbers, account_from, is_account, Writable}
 use Rattle.numbers.proofs.Back.{numbers_back}
 use Rattle.meter.specs.Answers.{laid}
 use Rattle.meter.specs.Calls.{sound_numbers}
-use Rattle.meter.specs.Files.{find_laid, step_laid, written_code, written_laid, plan_with_room, write_code, write_laid, write_buffer, run_code, run_numbers, run_laid}
-use Rattle.meter.proofs.Held.{log_new, writable}
+use Rattle.meter.specs.Files.{find_laid, run_code, run_numbers, run_laid}
+use Rattle.report.proofs.Running.{section_once}
+use Rattle.sections.specs.Table.{file_verdict}
+use Rattle.state.specs.declared.State.{State}
+use Rattle.account.specs.Answers.{account_of}
+use Rattle.numbers.proofs.Back.{account_length}
+use Rattle.meter.proofs.Held.{account_again, joined_length, log_new, writable}
+use Rattle.tariff.specs.declared.Refusal.{Refusal}
+use Rattle.std.specs.Prelude.{Option, None, Result, Ok, Err}
 
 -- what sound numbers stand for
 pub stands : (xs : List ℕ) → sound_numbers xs ≡ true → is_account xs ≡ true
@@ -99,26 +93,39 @@ module _ (xs s l : List ℕ) (t : Progress) (h : sound_numbers xs ≡ true) (e :
   pub left_refused : t.refused ≡ (run_section (account_from xs) s).refused
   left_refused = ap (λ (x : Replayed). x.refused) e
 
+-- the same from the state and the log's part that the calls were made on
+module _ (xs m : List ℕ) (b : State) (h : sound_numbers xs ≡ true) (e : b ≡ (account_from xs).state) (f : m ≡ take 1599 xs) where
+  pub said_sound : sound (account_of b m) ≡ true
+  said_sound = ap sound (account_again xs b m e f) ∙ is_sound_there xs h
+
+  module _ (l s : List ℕ) (t : Progress) (g : replayed_of t l ≡ run_section (account_of b m) s) where
+    ran_there : replayed_of t l ≡ run_section (account_from xs) s
+    ran_there = g ∙ ap (λ (a : Account). run_section a s) (account_again xs b m e f)
+
+    pub run_settles : (length (l ++ drop 1599 xs) ≡ 1649) × Writable t.state
+    run_settles = (joined_length l xs (left_length xs s l t h ran_there) (account_length xs (stands xs h)), left_writable xs s l t h ran_there)
+
+    pub run_refused : t.refused ≡ (run_section (account_from xs) s).refused
+    run_refused = left_refused xs s l t h ran_there
+
+    pub run_left : log_part (l ++ drop 1599 xs) ++ state_numbers t.state ≡ account_numbers (run_section (account_from xs) s).account
+    run_left = left_numbers xs s l t h ran_there
+
 -- a file that was read has its calls section, whose calls are the file's
-pub section_there : (f : List ℕ) (p : Plan) (n : ℕ) → read_of f ≡ Told.Trip p n → part_of f 2 ≡ section_of f 2
-section_there f p n e = sym (section_is f 2 (holds f p n e).found)
+pub section_there : (f : List ℕ) (t : Trip) → read_of f ≡ Ok t → part_of f 2 ≡ section_of f 2
+section_there f t e = sym (section_is f 2 (holds f t.plan t.calls e).found)
+
+pub section_two : (f : List ℕ) (t : Trip) → read_of f ≡ Ok t → (is_accepted (file_verdict f) ≡ true) × (just_once f 2 ≡ true)
+section_two f t e = section_once f t.plan t.calls e
 
 -- the cases of a run
 module _ (xs f ys : List ℕ) where
-  pub run_0 : sound_numbers xs ≡ false → (0 ≡ run_code xs f) × ((xs ≡ run_numbers xs f) × (ys ≡ run_laid xs f ys))
-  unfolding run_code run_numbers run_laid
-  run_0 h = (rw h refl, (rw h refl, rw h refl))
-
-  pub run_declined : (n : ℕ) → sound_numbers xs ≡ true → read_of f ≡ Told.Refused n → (n ≡ run_code xs f) × ((xs ≡ run_numbers xs f) × (ys ≡ run_laid xs f ys))
-  unfolding run_code run_numbers run_laid
-  run_declined n h e = (rw (h, e) refl, (rw (h, e) refl, rw (h, e) refl))
-
-  pub run_done : (p : Plan) (n : ℕ) (s zs ws : List ℕ) (r : ℕ) → sound_numbers xs ≡ true → read_of f ≡ Told.Trip p n → s ≡ part_of f 2
+  pub run_done : (t : Trip) (s zs ws : List ℕ) (r : ℕ) → sound_numbers xs ≡ true → read_of f ≡ Ok t → s ≡ part_of f 2
       → r ≡ (run_section (account_from xs) s).refused → zs ≡ account_numbers (run_section (account_from xs) s).account → ws ≡ laid (r ∷ []) ys
       → (1000 ≡ run_code xs f) × ((zs ≡ run_numbers xs f) × (ws ≡ run_laid xs f ys))
   unfolding run_code run_numbers run_laid
-  run_done p n s zs ws r h e d a b c =
-      let same : run_section (account_from xs) s ≡ replay_of (account_from xs) (calls_of f) = ap (run_section (account_from xs)) (d ∙ section_there f p n e) in
+  run_done t s zs ws r h e d a b c =
+      let same : run_section (account_from xs) s ≡ replay_of (account_from xs) (calls_of f) = ap (run_section (account_from xs)) (d ∙ section_there f t e) in
       (rw (h, e) refl, (rw (h, e) (b ∙ ap (λ (x : Replayed). account_numbers x.account) same), rw (h, e) (c ∙ ap (λ (k : ℕ). laid (k ∷ []) ys) (a ∙ ap (λ (x : Replayed). x.refused) same))))
 
 -- a file's calls lead to a sound account, and the limit of a statement is that account's
@@ -128,68 +135,32 @@ opened_sound p h = (open_tells_sound p).taken (unfold open_answer in accepted_is
 trip_sound : (f : List ℕ) (p : Plan) → is_accepted (plan_verdict p) ≡ true → sound (trip_run f p).account ≡ true
 trip_sound f p h = ran_sound (open_answer p).account (calls_of f) (opened_sound p h)
 
-limit_in : Report → Allowance
-limit_in (Reported.Lines x) = x.limit
-limit_in (Reported.Refused n) = NoLimit
+limit_in : Result Figures Refusal → Option ℕ
+limit_in (Ok x) = x.limit
+limit_in (Err n) = None
 
 limit_of : (f : List ℕ) (p : Plan) → sound (trip_run f p).account ≡ true → allowance_fits (figures_of (trip_run f p)).limit ≡ true
 unfolding figures_with
 limit_of f p s = (sound_tells _ s).counters.allowance_ok
 
-pub limit_fits : (f : List ℕ) (x : Figures) → report_of f ≡ Reported.Lines x → allowance_fits x.limit ≡ true
+pub limit_fits : (f : List ℕ) (x : Figures) → report_of f ≡ Ok x → allowance_fits x.limit ≡ true
 unfolding report_of report_on limit_in
 limit_fits f x e = go (read_of f) refl e
   where
-    go : (r : Read) → read_of f ≡ r → report_on f r ≡ Reported.Lines x → allowance_fits x.limit ≡ true
-    go (Told.Trip p n) d g = sym (ap (λ (r : Report). allowance_fits (limit_in r)) g) ∙ limit_of f p (trip_sound f p (holds f p n d).plan)
-    go (Told.Refused n) d g = cc
-
--- writing: seven numbers of a plan, and room for the answer
-pub room_there : (ts ys : List ℕ) → (eqb (length ts) 7 && leb 1 (length ys)) ≡ true → plan_with_room ts ys ≡ true
-unfolding plan_with_room
-room_there ts ys h = h
-
-pub room_missing : (ts ys : List ℕ) → (eqb (length ts) 7 && leb 1 (length ys)) ≡ false → plan_with_room ts ys ≡ false
-unfolding plan_with_room
-room_missing ts ys h = h
-
-pub plan_seven : (ts ys : List ℕ) → plan_with_room ts ys ≡ true → length ts ≡ 7
-unfolding plan_with_room
-plan_seven ts ys h = eqb-true (length ts) 7 (and_left (eqb (length ts) 7) (leb 1 (length ys)) h)
-
-pub room_one : (ts ys : List ℕ) → plan_with_room ts ys ≡ true → 1 ≤ length ys
-unfolding plan_with_room
-room_one ts ys h = leb-true 1 (length ys) (and_right (eqb (length ts) 7) (leb 1 (length ys)) h)
+    go : (r : Result Trip Refusal) → read_of f ≡ r → report_on f r ≡ Ok x → allowance_fits x.limit ≡ true
+    go (Ok t) d g = sym (ap (λ (r : Result Figures Refusal). allowance_fits (limit_in r)) g) ∙ limit_of f t.plan (trip_sound f t.plan (holds f t.plan t.calls d).plan)
+    go (Err n) d g = cc
 
 -- a section that is found lies where its entry says
-pub found_length : (f : List ℕ) (k : ℕ) → find_verdict f k ≡ Accepted → (part_start f k ≡ section_start f k) × ((part_extent f k).length ≡ length (section_of f k))
+pub found_length : (f : List ℕ) (k : ℕ) → find_verdict f k ≡ (Ok tt) → (part_start f k ≡ section_start f k) × ((part_extent f k).length ≡ length (section_of f k))
 unfolding section_start part_length
 found_length f k e =
     let h : is_accepted (find_verdict f k) ≡ true = ap is_accepted e in
     let b = found_both f k h in
     (rw e refl, sym (ap length (section_is f k h) ∙ length_part f k (keeps f b.0) b.1))
 
-pub found_laid : (f : List ℕ) (k : ℕ) (ys zs : List ℕ) (x : Extent) → find_verdict f k ≡ Accepted → x ≡ part_extent f k → zs ≡ laid (x.start ∷ x.length ∷ []) ys → zs ≡ find_laid f k ys
+pub found_laid : (f : List ℕ) (k : ℕ) (ys zs : List ℕ) (x : Extent) → find_verdict f k ≡ (Ok tt) → x ≡ part_extent f k → zs ≡ laid (x.start ∷ x.length ∷ []) ys → zs ≡ find_laid f k ys
 unfolding find_laid
 found_laid f k ys zs x e d g =
     let n = found_length f k e in
     rw e (g ∙ (ap (λ (y : Extent). laid (y.start ∷ y.length ∷ []) ys) d ∙ λ i. laid (n.0 i ∷ n.1 i ∷ []) ys))
-
--- a call of a section
-pub call_laid : (s : List ℕ) (at c n m : ℕ) (x : Step) (ys zs : List ℕ) → Step.Call c n ≡ x → m ≡ position_after s at → zs ≡ laid (c ∷ n ∷ m ∷ []) ys → zs ≡ step_laid s at x ys
-call_laid s at c n m x ys zs e d g = g ∙ (ap (λ (k : ℕ). laid (c ∷ n ∷ k ∷ []) ys) d ∙ ap (λ (y : Step). step_laid s at y ys) e)
-
--- writing, of a plan that is granted and of one that is not
-module _ (ts cs ns buf ys : List ℕ) (h : plan_with_room ts ys ≡ true) where
-  pub write_granted : (p : Plan) (w : Written) (zs ws : List ℕ) → plan_of (terms_from ts) ≡ Planned.Granted p → w ≡ written_of p cs ns buf → zs ≡ buffer_of p cs ns buf
-      → ws ≡ written_laid w ys → (written_code w ≡ write_code ts cs ns buf ys) × ((zs ≡ write_buffer ts cs ns buf ys) × (ws ≡ write_laid ts cs ns buf ys))
-  unfolding write_code write_laid write_buffer
-  write_granted p w zs ws e d a b = (rw (h, e) (ap written_code d), (rw (h, e) a, rw (h, e) (b ∙ ap (λ (x : Written). written_laid x ys) d)))
-
-  pub write_declined : (n : ℕ) → plan_of (terms_from ts) ≡ Planned.Refused n → (n ≡ write_code ts cs ns buf ys) × ((buf ≡ write_buffer ts cs ns buf ys) × (ys ≡ write_laid ts cs ns buf ys))
-  unfolding write_code write_laid write_buffer
-  write_declined n e = (rw (h, e) refl, (rw (h, e) refl, rw (h, e) refl))
-
-pub write_bad : (ts cs ns buf ys : List ℕ) → plan_with_room ts ys ≡ false → (1001 ≡ write_code ts cs ns buf ys) × ((buf ≡ write_buffer ts cs ns buf ys) × (ys ≡ write_laid ts cs ns buf ys))
-unfolding write_code write_laid write_buffer
-write_bad ts cs ns buf ys h = (rw h refl, (rw h refl, rw h refl))

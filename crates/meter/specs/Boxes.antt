@@ -1,13 +1,10 @@
 -- A family box in the caller's memory: its account as numbers, its cards as records (library-11 to library-13,
 -- family-1, family-7). Choices (docs/DECISIONS.md, "The library" and "Family box"): arguments of no call; a call that
 -- names no card; a refused opening. Assumes nothing.
-use Rattle.std.specs.Prelude.{ℕ, Bool, true, cond, ◌&&◌, List, ◌++◌, length, eqb}
-use Rattle.tariff.specs.declared.Verdict.{Verdict}
-use Rattle.tariff.specs.declared.Verdict.TheVariants as Judged
+use Rattle.std.specs.Prelude.{ℕ, Bool, true, cond, ◌&&◌, List, ◌++◌, length, eqb, Result, Ok, Err, ⊤}
 use Rattle.tariff.specs.Tests.{verdict_of, is_accepted}
 use Rattle.tariff.specs.Plan.{plan_with, terms_reasons}
-use Rattle.state.specs.declared.Answer.{Answer}
-use Rattle.state.specs.declared.Answer.TheVariants.{Refused}
+use Rattle.state.specs.declared.Outcome.{Outcome}
 use Rattle.account.specs.Answers.{applied_state}
 use Rattle.numbers.specs.Numbers.{terms_from, account_numbers, account_from, is_account}
 use Rattle.cards.specs.declared.Card.{Card}
@@ -21,6 +18,8 @@ use Rattle.family.specs.Seen.{card_place, seen_applied, seen_change, no_change, 
 use Rattle.meter.specs.declared.boxes.BoxReturned.{BoxReturned}
 use Rattle.meter.specs.Answers.{bad_argument, verdict_code, answer_code, answer_laid}
 use Rattle.meter.specs.Calls.{kind_from, is_place, place_named, kind_with_room}
+use Rattle.tariff.specs.declared.Refusal.{Refusal}
+use Rattle.tariff.specs.declared.Refusal.TheVariants.{Unsound}
 
 -- library-11, family-7: the call that is meant: 0 register, 1 use, 2 top-up, 3 next day, 4 Afford
 unfoldable pub box_call : ℕ → ℕ → ℕ → ℕ → BoxCall
@@ -37,8 +36,8 @@ is_box_call w k ys = cond (eqb w 0) (is_place k)
     (cond (eqb w 3) true (eqb w 4 && kind_with_room k 1 ys))))
 
 -- library-12, family-5: a call's answer, 0 where the numbers stand for no account
-unfoldable pub box_call_answer : List ℕ → List Card → BoxCall → Answer
-box_call_answer xs cs c = cond (is_account xs) (box_applied (box_of (account_from xs) cs) c).answer (Refused 0)
+unfoldable pub box_call_answer : List ℕ → List Card → BoxCall → Result Outcome Refusal
+box_call_answer xs cs c = cond (is_account xs) (box_applied (box_of (account_from xs) cs) c).answer (Err Unsound)
 
 -- library-12, family-5: the account's numbers after it
 unfoldable pub box_call_numbers : List ℕ → List Card → BoxCall → List ℕ
@@ -66,9 +65,9 @@ unfoldable pub box_laid : List ℕ → List Card → BoxCall → Bool → List �
 box_laid xs cs c t ys = cond t (answer_laid (box_call_answer xs cs c) ys) ys
 
 -- library-13, family-14: opening with a plan's seven numbers, 0 where there are not 1,649 numbers
-unfoldable pub box_open_verdict : List ℕ → List Card → List ℕ → Verdict
+unfoldable pub box_open_verdict : List ℕ → List Card → List ℕ → Result ⊤ Refusal
 box_open_verdict xs cs ts = cond (eqb (length xs) 1649)
-    (verdict_of (terms_reasons (terms_from ts) ++ card_reasons cs)) (Judged.Refused 0)
+    (verdict_of (terms_reasons (terms_from ts) ++ card_reasons cs)) (Err Unsound)
 
 -- library-13: it is accepted
 unfoldable pub box_opens : List ℕ → List Card → List ℕ → Bool
@@ -88,8 +87,8 @@ unfoldable pub box_open_cards : List ℕ → List Card → List ℕ → List Car
 box_open_cards xs cs ts = cond (box_opens xs cs ts) (open_box (plan_with (terms_from ts)) cs).box.cards cs
 
 -- aid: a call's answer by what a pass over the cards found
-unfoldable pub found_answer : List ℕ → Survey → BoxCall → Answer
-found_answer xs s c = cond (is_account xs) (seen_applied (account_from xs) s c).answer (Refused 0)
+unfoldable pub found_answer : List ℕ → Survey → BoxCall → Result Outcome Refusal
+found_answer xs s c = cond (is_account xs) (seen_applied (account_from xs) s c).answer (Err Unsound)
 
 -- aid: the numbers after it
 unfoldable pub found_numbers : List ℕ → Survey → BoxCall → List ℕ
@@ -107,9 +106,9 @@ found_returned xs s c t = cond t
     (record { code = bad_argument; change = no_change (card_place c) s })
 
 -- aid: opening by what a pass over the cards found
-unfoldable pub found_verdict : List ℕ → Survey → List ℕ → Verdict
+unfoldable pub found_verdict : List ℕ → Survey → List ℕ → Result ⊤ Refusal
 found_verdict xs s ts = cond (eqb (length xs) 1649)
-    (verdict_of (terms_reasons (terms_from ts) ++ found_reasons s)) (Judged.Refused 0)
+    (verdict_of (terms_reasons (terms_from ts) ++ found_reasons s)) (Err Unsound)
 
 -- aid: it is accepted
 unfoldable pub found_opens : List ℕ → Survey → List ℕ → Bool
@@ -119,5 +118,5 @@ found_opens xs s ts = eqb (length ts) 7 && is_accepted (found_verdict xs s ts)
 unfoldable pub found_opened : List ℕ → Survey → List ℕ → BoxReturned
 found_opened xs s ts = record {
   code = cond (eqb (length ts) 7) (verdict_code (found_verdict xs s ts)) bad_argument;
-  change = cond (found_opens xs s ts) (opening_change Judged.Accepted s) (no_change 0 s);
+  change = cond (found_opens xs s ts) (opening_change (Ok tt) s) (no_change 0 s);
 }

@@ -1,16 +1,14 @@
 -- Calls on an account in the caller's memory, as numbers (library-4 to library-7). Choices (docs/DECISIONS.md, "The
 -- library"): another count than 1,649 numbers; arguments of no call; a refused Open; a refused call. Assumes nothing.
-use Rattle.std.specs.Prelude.{ℕ, ◌≡◌, Bool, true, cond, ◌&&◌, List, ◌++◌, length, leb, eqb}
+use Rattle.std.specs.Prelude.{ℕ, ◌≡◌, Bool, true, cond, ◌&&◌, List, ◌++◌, length, leb, eqb, Result, Ok, Err, ⊤}
 use Rattle.tariff.specs.declared.Kind.{Kind}
 use Rattle.tariff.specs.declared.Kind.TheVariants.{Data, Outgoing, Incoming, Sms}
 use Rattle.tariff.specs.declared.Place.{Place}
 use Rattle.tariff.specs.declared.Place.TheVariants.{Home, Zone, Elsewhere}
-use Rattle.tariff.specs.declared.Verdict.{Verdict}
-use Rattle.tariff.specs.declared.Verdict.TheVariants as Judged
 use Rattle.tariff.specs.Tests.{verdict_of, is_accepted}
 use Rattle.tariff.specs.Plan.{plan_with, terms_reasons}
-use Rattle.state.specs.declared.Answer.{Answer}
-use Rattle.state.specs.declared.Answer.TheVariants.{Done, Charged, UpTo, Refused}
+use Rattle.state.specs.declared.Outcome.{Outcome}
+use Rattle.state.specs.declared.Outcome.TheVariants.{Done, Charged, UpTo}
 use Rattle.state.specs.declared.StateApplied.{StateApplied}
 use Rattle.state.specs.Reasons.{is_taken}
 use Rattle.account.specs.declared.Call.{Call}
@@ -19,10 +17,12 @@ use Rattle.account.specs.Answers.{open_answer, applied}
 use Rattle.numbers.specs.Numbers.{terms_from, state_numbers, log_part, account_numbers, account_from, is_account}
 use Rattle.numbers.specs.Numbers.{Writable}
 use Rattle.meter.specs.Answers.{bad_argument, verdict_code}
+use Rattle.tariff.specs.declared.Refusal.{Refusal}
+use Rattle.tariff.specs.declared.Refusal.TheVariants.{Unsound}
 
 -- library-5, library-6: a call's answer, 0 where the numbers stand for no account
-unfoldable pub call_answer : List ℕ → Call → Answer
-call_answer xs c = cond (is_account xs) (applied (account_from xs) c).answer (Refused 0)
+unfoldable pub call_answer : List ℕ → Call → Result Outcome Refusal
+call_answer xs c = cond (is_account xs) (applied (account_from xs) c).answer (Err Unsound)
 
 -- library-5, library-6: the numbers after it. Laws: those of the call on the account (`CallsFollowTheAccount`); the
 -- same on a refusal (`RefusedChangesNoNumber`)
@@ -54,8 +54,8 @@ unfoldable pub kind_with_room : ℕ → ℕ → List ℕ → Bool
 kind_with_room kind size ys = is_kind kind && leb size (length ys)
 
 -- library-7, library-5: Open on a plan's seven numbers, 0 where there are not 1,649 numbers
-unfoldable pub open_verdict : List ℕ → List ℕ → Verdict
-open_verdict xs ts = cond (eqb (length xs) 1649) (verdict_of (terms_reasons (terms_from ts))) (Judged.Refused 0)
+unfoldable pub open_verdict : List ℕ → List ℕ → Result ⊤ Refusal
+open_verdict xs ts = cond (eqb (length xs) 1649) (verdict_of (terms_reasons (terms_from ts))) (Err Unsound)
 
 -- library-4, library-7: what Open returns
 unfoldable pub open_code : List ℕ → List ℕ → ℕ
@@ -67,11 +67,11 @@ open_numbers xs ts = cond (eqb (length ts) 7 && is_accepted (open_verdict xs ts)
     (account_numbers (open_answer (plan_with (terms_from ts))).account) xs
 
 -- aid: how many numbers an answer puts
-abbrev pub answer_size : Answer → ℕ
-answer_size Done = 0
-answer_size (Charged c) = 5
-answer_size (UpTo n) = 1
-answer_size (Refused n) = 0
+abbrev pub answer_size : Result Outcome Refusal → ℕ
+answer_size (Ok Done) = 0
+answer_size (Ok (Charged c)) = 5
+answer_size (Ok (UpTo n)) = 1
+answer_size (Err r) = 0
 
 -- aid: what an accepted call makes of all but the log, over the numbers with the log as the call left it
 unfoldable pub settled : StateApplied → List ℕ → List ℕ

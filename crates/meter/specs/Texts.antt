@@ -1,23 +1,24 @@
 -- The text of calls through the library (library-14). Choice (docs/DECISIONS.md, "The library"): the line of refusal
 -- 22. Assumes nothing.
-use Rattle.std.specs.Prelude.{ℕ, cond, List, [], ◌∷◌, length, leb}
-use Rattle.textlines.specs.declared.TextRead.{TextRead}
-use Rattle.textlines.specs.declared.TextRead.TheVariants.{Calls, BadLine, Refused}
+use Rattle.std.specs.Prelude.{ℕ, cond, List, [], ◌∷◌, length, leb, Result, Ok, Err}
+use Rattle.tariff.specs.Refusal.{refusal_number}
+use Rattle.textlines.specs.declared.TextError.{TextError}
+use Rattle.textlines.specs.declared.TextError.TheVariants.{BadLine, Refused}
 use Rattle.textlines.specs.Text.{reading_of, list_after, exported_of, buffer_of}
 use Rattle.meter.specs.Answers.{accepted, bad_argument, laid}
 use Rattle.meter.specs.Files.{written_code, written_laid}
 
 -- library-14, refusal-22: accepted, or the number that declines the text
-abbrev pub text_code : TextRead → ℕ
-text_code (Calls n) = accepted
-text_code (BadLine k) = 22
-text_code (Refused r) = r
+abbrev pub text_code : Result ℕ TextError → ℕ
+text_code (Ok n) = accepted
+text_code (Err (BadLine k)) = 22
+text_code (Err (Refused r)) = refusal_number r
 
 -- library-14, refusal-22: how many calls there are; of 22 the line; else nothing
-abbrev pub text_laid : TextRead → List ℕ → List ℕ
-text_laid (Calls n) ys = laid (n ∷ []) ys
-text_laid (BadLine k) ys = laid (k ∷ []) ys
-text_laid (Refused r) ys = ys
+abbrev pub text_laid : Result ℕ TextError → List ℕ → List ℕ
+text_laid (Ok n) ys = laid (n ∷ []) ys
+text_laid (Err (BadLine k)) ys = laid (k ∷ []) ys
+text_laid (Err (Refused r)) ys = ys
 
 -- library-4, library-14: with room for the answer looked at first: what reading returns
 unfoldable pub text_read_code : List ℕ → List ℕ → List ℕ → List ℕ → ℕ

@@ -17,7 +17,7 @@ use super::{answer_code, kind_of, open_on, place_of, put_answer, settle};
 use cards::{Card, Change, Survey};
 use family::BoxCall;
 use state::Answer;
-use tariff::{Plan, PlanAnswer, Verdict};
+use tariff::{Plan, Refusal};
 
 // What a call on a box answers, and what becomes of the cards.
 #[derive(Clone, Copy)]
@@ -27,6 +27,7 @@ pub struct BoxAnswered {
 }
 
 // What a function returns, and what becomes of the cards.
+// kept: beside `BoxAnswered`; a pair of any two would call neither part by name.
 #[derive(Clone, Copy)]
 pub struct BoxReturned {
     pub code: u64,
@@ -34,22 +35,18 @@ pub struct BoxReturned {
 }
 
 // The call that is meant: 0 register, 1 use, 2 top-up, 3 next day, 4 Afford.
+// Kept: the C interface gives the call as a number.
+#[tactic(auto, unfolding(crate::specs::Boxes::box_call))]
 fn call_meant(call: u64, card: usize, which: u64, n: u64) -> BoxCall
     ensures { result ≡ box_call call card which n }
 {
-    if call == 0 {
-        return BoxCall::Register(place_of(which));
+    match call {
+        0 => BoxCall::Register(place_of(which)),
+        1 => BoxCall::Use(card, kind_of(which), n),
+        2 => BoxCall::TopUp(n),
+        3 => BoxCall::NextDay,
+        _ => BoxCall::Afford(card, kind_of(which)),
     }
-    if call == 1 {
-        return BoxCall::Use(card, kind_of(which), n);
-    }
-    if call == 2 {
-        return BoxCall::TopUp(n);
-    }
-    if call == 3 {
-        return BoxCall::NextDay;
-    }
-    BoxCall::Afford(card, kind_of(which))
 }
 
 // A pass that looks for the card that the call names.
@@ -60,25 +57,22 @@ fn start_meant(call: u64, card: usize, which: u64, n: u64) -> Survey
 }
 
 // Are the arguments those of a call, with room for its answer of so many numbers?
+#[tactic(auto, unfolding(crate::specs::Boxes::is_box_call, crate::specs::Calls::kind_with_room))]
 fn is_call(call: u64, which: u64, answer: &[u64]) -> bool
     ensures { result ≡ is_box_call call which answer.now }
 {
-    if call == 0 {
-        return which <= 2;
+    match call {
+        0 => which <= 2,
+        1 => which <= 3 && 5 <= answer.len(),
+        2 | 3 => true,
+        4 => which <= 3 && 1 <= answer.len(),
+        _ => false,
     }
-    if call == 1 {
-        return (which <= 3) & (5 <= answer.len());
-    }
-    if call == 2 {
-        return true;
-    }
-    if call == 3 {
-        return true;
-    }
-    (call == 4) & ((which <= 3) & (1 <= answer.len()))
 }
 
 // A call on the account that the numbers stand for, with the log where it stands.
+// kept: beside `calls::call_on`, whose call has no card: what both do beyond the call itself is `held`, `state_held`
+// and `settle`, three lines.
 fn call_found(account: &mut [u64], s: Survey, c: BoxCall) -> BoxAnswered
     ensures answer { result ≡ record {
       answer = found_answer account.old s c;
@@ -88,18 +82,16 @@ fn call_found(account: &mut [u64], s: Survey, c: BoxCall) -> BoxAnswered
 {
     if !numbers::held(account) {
         return BoxAnswered {
-            answer: Answer::Refused(0),
+            answer: Err(Refusal::Unsound),
             change: family::seen::unchanged(family::seen::place_of(c), s),
         };
     }
     let state = numbers::state_held(account);
-    let done = family::seen::call_seen(state, &mut account[..1599], s, c);
+    let done = family::seen::call_seen(state, account.first_chunk_mut::<1599>().unwrap(), s, c);
     settle(account, done);
-    let answer = done.answer;
-    let change = family::seen::change_of(done, s, c);
     BoxAnswered {
-        answer: answer,
-        change: change,
+        answer: done.answer,
+        change: family::seen::change_of(done, s, c),
     }
 }
 
@@ -129,12 +121,10 @@ fn return_found(
         };
     }
     let x = call_found(account, s, c);
-    let y = x.answer;
-    let change = x.change;
-    put_answer(answer, y);
+    put_answer(answer, x.answer);
     BoxReturned {
-        code: answer_code(y),
-        change: change,
+        code: answer_code(x.answer),
+        change: x.change,
     }
 }
 
@@ -150,18 +140,14 @@ fn open_granted(account: &mut [u64], s: Survey, p: Plan) -> BoxReturned
 {
     let opened = family::seen::open_seen(p, s);
     let change = family::seen::opening_of(opened, s);
-    let answer = opened.answer;
-    match answer {
-        Verdict::Accepted => {
+    match opened.answer {
+        Ok(()) => {
             open_on(account, p);
-            BoxReturned {
-                code: 1000,
-                change: change,
-            }
+            BoxReturned { code: 1000, change }
         }
-        Verdict::Refused(n) => BoxReturned {
-            code: n,
-            change: change,
+        Err(refusal) => BoxReturned {
+            code: refusal.into(),
+            change,
         },
     }
 }
@@ -170,7 +156,7 @@ fn left_with(code: u64, s: Survey) -> BoxReturned
     ensures { result ≡ record { code = code; change = no_change 0 s } }
 {
     BoxReturned {
-        code: code,
+        code,
         change: family::seen::unchanged(0, s),
     }
 }
@@ -185,12 +171,11 @@ fn open_found(account: &mut [u64], s: Survey, plan: &[u64]) -> BoxReturned
         return left_with(1001, s);
     }
     if account.len() != 1649 {
-        return left_with(0, s);
+        return left_with(Refusal::Unsound.into(), s);
     }
-    let granted = tariff::plans::plan_from(numbers::terms_of(plan));
-    match granted {
-        PlanAnswer::Granted(p) => open_granted(account, s, p),
-        PlanAnswer::Refused(n) => left_with(n, s),
+    match tariff::plans::plan_from(numbers::terms_of(plan)) {
+        Ok(p) => open_granted(account, s, p),
+        Err(refusal) => left_with(refusal.into(), s),
     }
 }
 
@@ -201,11 +186,9 @@ pub fn meter_box_open(account: &mut [u64], cards: &mut [Card], plan: &[u64]) -> 
         × (account.new ≡ box_open_numbers account.old cards.old plan.now)
         × (cards.new ≡ box_open_cards account.old cards.old plan.now) }
 {
-    let from = cards::start_at(0);
-    let found = cards::survey_all(cards, from);
+    let found = cards::survey_all(cards, cards::start_at(0));
     let done = open_found(account, found, plan);
-    let change = done.change;
-    cards::settle(cards, change);
+    cards::settle(cards, done.change);
     done.code
 }
 
@@ -229,10 +212,8 @@ pub fn meter_box_call(
         × (answer.new ≡ box_laid account.old cards.old (box_call call card which n)
         (is_box_call call which answer.old) answer.old) }
 {
-    let from = start_meant(call, card, which, n);
-    let found = cards::survey_all(cards, from);
+    let found = cards::survey_all(cards, start_meant(call, card, which, n));
     let done = return_found(account, found, call, card, which, n, answer);
-    let change = done.change;
-    cards::settle(cards, change);
+    cards::settle(cards, done.change);
     done.code
 }

@@ -7,7 +7,7 @@ ghost use Rattle.meter.specs.Calls.{place_named, kind_with_room};
 use super::{answer_code, kind_of, place_of, put_answer, settle, sound_held};
 use account::Call;
 use state::Answer;
-use tariff::Kind;
+use tariff::{Kind, Refusal};
 
 // A call of any kind, with the log where it stands.
 fn call_on(account: &mut [u64], c: Call) -> Answer
@@ -15,10 +15,10 @@ fn call_on(account: &mut [u64], c: Call) -> Answer
     ensures numbers { account.new ≡ call_numbers account.old c }
 {
     if !numbers::held(account) {
-        return Answer::Refused(0);
+        return Err(Refusal::Unsound);
     }
     let state = numbers::state_held(account);
-    let done = account::call_with(state, &mut account[..1599], c);
+    let done = account::call_with(state, account.first_chunk_mut::<1599>().unwrap(), c);
     settle(account, done);
     done.answer
 }
@@ -53,6 +53,7 @@ pub fn meter_next_day(account: &mut [u64]) -> u64
 }
 
 // A use of n units of a kind: 0 data, 1 outgoing, 2 incoming, 3 SMS. Refusals 0, 3, 4, 5, 6.
+#[tactic(auto, unfolding(crate::specs::Calls::kind_with_room), using(crate::proofs::Held::few_numbers))]
 pub fn meter_use(account: &mut [u64], kind: u64, n: u64, answer: &mut [u64]) -> u64
     ensures code { result ≡ cond (kind_with_room kind 5 answer.old)
         (answer_code (call_answer account.old (Call.Use (kind_from kind) n))) bad_argument }
@@ -62,7 +63,7 @@ pub fn meter_use(account: &mut [u64], kind: u64, n: u64, answer: &mut [u64]) -> 
         (answer_laid (call_answer account.old (Call.Use (kind_from kind) n)) answer.old)
         answer.old }
 {
-    if !((kind <= 3) & (5 <= answer.len())) {
+    if kind > 3 || answer.len() < 5 {
         return 1001;
     }
     let x = call_on(account, Call::Use(kind_of(kind), n));
@@ -75,13 +76,14 @@ fn afford_on(account: &[u64], k: Kind) -> Answer
     ensures { result ≡ call_answer account.now (Call.Afford k) }
 {
     if !numbers::held(account) {
-        return Answer::Refused(0);
+        return Err(Refusal::Unsound);
     }
     let state = numbers::state_held(account);
-    account::afford_with(state, &account[..1599], k)
+    account::afford_with(state, account.first_chunk::<1599>().unwrap(), k)
 }
 
 // The largest n that a use of the kind is accepted for, 0 if there is none, into the first number of a list.
+#[tactic(auto, unfolding(crate::specs::Calls::kind_with_room))]
 pub fn meter_afford(account: &[u64], kind: u64, answer: &mut [u64]) -> u64
     ensures code { result ≡ cond (kind_with_room kind 1 answer.old)
         (answer_code (call_answer account.now (Call.Afford (kind_from kind)))) bad_argument }
@@ -89,7 +91,7 @@ pub fn meter_afford(account: &[u64], kind: u64, answer: &mut [u64]) -> u64
         (answer_laid (call_answer account.now (Call.Afford (kind_from kind))) answer.old)
         answer.old }
 {
-    if !((kind <= 3) & (1 <= answer.len())) {
+    if kind > 3 || answer.len() < 1 {
         return 1001;
     }
     let x = afford_on(account, kind_of(kind));

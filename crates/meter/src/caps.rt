@@ -5,6 +5,7 @@ ghost use Rattle.meter.specs.Answers.{laid, accepted, bad_argument};
 ghost use Rattle.meter.specs.Files.{caps_numbers};
 
 use super::put_first;
+use tariff::Found;
 
 // The caps of a day into the first four numbers of a list, and how many rows were read into the fifth.
 pub fn meter_caps(day: u64, answer: &mut [u64]) -> u64
@@ -15,9 +16,10 @@ pub fn meter_caps(day: u64, answer: &mut [u64]) -> u64
     if answer.len() < 5 {
         return 1001;
     }
-    let found = tariff::caps::find_caps(day);
-    let caps = found.caps;
-    let ns = [caps.kb, caps.outgoing, caps.incoming, caps.sms, found.read];
-    put_first(answer, &ns);
+    let Found { caps, read } = tariff::caps::find_caps(day);
+    put_first(
+        answer,
+        &[caps.kb, caps.outgoing, caps.incoming, caps.sms, read],
+    );
     1000
 }

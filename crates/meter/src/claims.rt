@@ -8,6 +8,7 @@ pub fn calls_follow_the_account()
 {}
 
 // A refused call leaves every number as it was.
+#[tactic(auto, using(crate::proofs::Held::refused_changes_no_number))]
 pub fn refused_changes_no_number()
     ensures { RefusedChangesNoNumber }
 {}

@@ -14,20 +14,25 @@ ghost use Rattle.meter.specs.Files.{written_code, written_laid, write_code, writ
 ghost use Rattle.meter.specs.Files.{step_code, step_laid, run_code, run_numbers, run_laid};
 
 use super::{put_first, put_number, sound_held};
-use reader::Step;
-use report::{Figures, Report};
-use tariff::{Plan, PlanAnswer, Verdict};
-use tripfile::{Read, Written};
+use report::Figures;
+use tariff::Refusal;
+use tripfile::Trip;
 
 fn put_figures(out: &mut [u64], f: Figures)
     requires { (9 ≤ length out.old) × (allowance_fits f.limit ≡ true) }
     ensures { out.new ≡ laid (figures_numbers f) out.old }
 {
-    let l = f.limit;
-    let limit = numbers::number_of_allowance(l);
-    let refused = f.refused as u64;
+    let limit = numbers::number_of_allowance(f.limit);
     let ns = [
-        f.day, f.paid, f.credit, f.home, f.extra, limit, f.roamed, f.past, refused,
+        f.day,
+        f.paid,
+        f.credit,
+        f.home,
+        f.extra,
+        limit,
+        f.roamed,
+        f.past,
+        f.refused as u64,
     ];
     put_first(out, &ns);
 }
@@ -42,32 +47,29 @@ pub fn meter_statement(file: &[u8], answer: &mut [u64]) -> u64
     if answer.len() < 9 {
         return 1001;
     }
-    let r = report::statement_of(file);
-    match r {
-        Report::Lines(f) => {
+    match report::statement_of(file) {
+        Ok(f) => {
             put_figures(answer, f);
             1000
         }
-        Report::Refused(n) => n,
+        Err(refusal) => refusal.into(),
     }
 }
 
-fn put_trip(out: &mut [u64], p: Plan, calls: usize)
+fn put_trip(out: &mut [u64], trip: Trip)
     requires { 8 ≤ length out.old }
-    ensures { out.new ≡ laid (plan_numbers p ++ (calls ∷ [])) out.old }
+    ensures { out.new ≡ laid (plan_numbers trip.plan ++ (trip.calls ∷ [])) out.old }
 {
-    let f = p.form;
-    let form = numbers::number_of_form(f);
-    let n = calls as u64;
+    let p = trip.plan;
     let ns = [
-        form,
+        numbers::number_of_form(p.form),
         p.start,
         p.pergb,
         p.perminute,
         p.persms,
         p.fee,
         p.volume,
-        n,
+        trip.calls as u64,
     ];
     put_first(out, &ns);
 }
@@ -82,17 +84,17 @@ pub fn meter_read(file: &[u8], answer: &mut [u64]) -> u64
     if answer.len() < 8 {
         return 1001;
     }
-    let read = tripfile::reading::read(file);
-    match read {
-        Read::Trip { plan, calls } => {
-            put_trip(answer, plan, calls);
+    match tripfile::reading::read(file) {
+        Ok(trip) => {
+            put_trip(answer, trip);
             1000
         }
-        Read::Refused(n) => n,
+        Err(refusal) => refusal.into(),
     }
 }
 
 // Where the section of a kind starts in a trip file, and how many bytes it has: 10, 11, 12, 13.
+#[tactic(auto, unfolding(crate::specs::Files::find_laid))]
 pub fn meter_find(file: &[u8], kind: u32, answer: &mut [u64]) -> u64
     ensures code { result ≡ cond (leb 2 (length answer.old))
         (verdict_code (find_verdict file.now kind)) bad_argument }
@@ -102,33 +104,32 @@ pub fn meter_find(file: &[u8], kind: u32, answer: &mut [u64]) -> u64
     if answer.len() < 2 {
         return 1001;
     }
-    let v = sections::find_verdict(file, kind);
-    match v {
-        Verdict::Accepted => {
+    match sections::find_verdict(file, kind) {
+        Ok(()) => {
             let e = sections::part_extent(file, kind);
-            let ns = [e.start as u64, e.length as u64];
-            put_first(answer, &ns);
+            put_first(answer, &[e.start as u64, e.length as u64]);
             1000
         }
-        Verdict::Refused(n) => n,
+        Err(refusal) => refusal.into(),
     }
 }
 
-pub(crate) fn put_written(out: &mut [u64], w: Written) -> u64
+pub(crate) fn put_written(out: &mut [u64], w: Result<usize, Refusal>) -> u64
     requires { 1 ≤ length out.old }
     ensures code { result ≡ written_code w }
     ensures answered { out.new ≡ written_laid w out.old }
 {
     match w {
-        Written::Bytes(n) => {
+        Ok(n) => {
             put_number(out, n as u64);
             1000
         }
-        Written::Refused(n) => n,
+        Err(refusal) => refusal.into(),
     }
 }
 
 // Writes the trip file of a plan's seven numbers and of calls into a buffer: 1, 17, 18, 2, 14, 15, 16.
+#[tactic(auto, unfolding(crate::specs::Files::plan_with_room, crate::specs::Files::write_code, crate::specs::Files::write_laid, crate::specs::Files::write_buffer))]
 pub fn meter_write(
     plan: &[u64],
     codes: &[u32],
@@ -143,16 +144,12 @@ pub fn meter_write(
     ensures answered { answer.new ≡ write_laid plan.now codes.now
         numbers.now buffer.old answer.old }
 {
-    if !((plan.len() == 7) & (1 <= answer.len())) {
+    if plan.len() != 7 || answer.len() < 1 {
         return 1001;
     }
-    let granted = tariff::plans::plan_from(numbers::terms_of(plan));
-    match granted {
-        PlanAnswer::Granted(p) => {
-            let w = tripfile::writing::write(p, codes, numbers, buffer);
-            put_written(answer, w)
-        }
-        PlanAnswer::Refused(n) => n,
+    match tariff::plans::plan_from(numbers::terms_of(plan)) {
+        Ok(p) => { put_written(answer, tripfile::writing::write(p, codes, numbers, buffer)) }
+        Err(refusal) => refusal.into(),
     }
 }
 
@@ -167,15 +164,16 @@ pub fn meter_call(section: &[u8], position: usize, answer: &mut [u64]) -> u64
     if answer.len() < 3 {
         return 1001;
     }
-    let step = reader::decode(section, position);
-    match step {
-        Step::Call { code, number } => {
+    match reader::decode(section, position) {
+        Some(c) => {
             let after = reader::after(section, position);
-            let ns = [code as u64, number as u64, after as u64];
-            put_first(answer, &ns);
+            put_first(
+                answer,
+                &[u64::from(c.code), u64::from(c.number), after as u64],
+            );
             1000
         }
-        Step::End => 1002,
+        None => 1002,
     }
 }
 
@@ -188,14 +186,15 @@ fn run_held(account: &mut [u64], section: &[u8]) -> usize
         ≡ account_numbers (run_section (account_from account.old) section.now).account }
 {
     let state = numbers::state_held(account);
-    let t = replay::run_section(section, state, &mut account[..1599], true);
-    let last = t.state;
-    numbers::put_state(account, last);
+    let log = account.first_chunk_mut::<1599>().unwrap();
+    let t = replay::run_section(section, state, log, true);
+    numbers::put_state(account, t.state);
     t.refused
 }
 
 // All calls of a trip file on an account that has been in use, and how many of them were refused: 0, then the numbers
 // of a bad file.
+#[tactic(auto, unfolding(crate::specs::Files::run_code, crate::specs::Files::run_numbers, crate::specs::Files::run_laid))]
 pub fn meter_run(account: &mut [u64], file: &[u8], answer: &mut [u64]) -> u64
     ensures code { result ≡ cond (leb 1 (length answer.old))
         (run_code account.old file.now) bad_argument }
@@ -208,15 +207,14 @@ pub fn meter_run(account: &mut [u64], file: &[u8], answer: &mut [u64]) -> u64
         return 1001;
     }
     if !sound_held(account) {
-        return 0;
+        return Refusal::Unsound.into();
     }
-    let read = tripfile::reading::read(file);
-    match read {
-        Read::Trip { plan: _, calls: _ } => {
+    match tripfile::reading::read(file) {
+        Ok(_) => {
             let refused = run_held(account, sections::part(file, 2));
             put_number(answer, refused as u64);
             1000
         }
-        Read::Refused(n) => n,
+        Err(refusal) => refusal.into(),
     }
 }

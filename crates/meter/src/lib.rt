@@ -10,7 +10,7 @@ pub mod files;
 pub mod opening;
 pub mod texts;
 
-ghost use Rattle.std.specs.Prelude.{◌≡◌, true, cond, ◌∷◌, [], ◌++◌, ◌≤◌, length, drop, replicate};
+ghost use Rattle.std.specs.Prelude.{◌≡◌, true, cond, ◌∷◌, [], ◌≤◌, length};
 ghost use Rattle.tariff.specs.Tests.{is_accepted};
 ghost use Rattle.tariff.specs.Plan.{plan_verdict};
 ghost use Rattle.account.specs.Answers.{open_answer};
@@ -18,30 +18,27 @@ ghost use Rattle.numbers.specs.Numbers.{account_numbers};
 ghost use Rattle.meter.specs.Answers.{laid, answer_code, charge_numbers, answer_laid};
 ghost use Rattle.meter.specs.Calls.{sound_numbers, kind_from, place_named, answer_size, settled, Settles};
 
-use state::{Answer, Charge, StateApplied};
+use state::{Answer, Charge, Outcome, StateApplied};
 use tariff::{Kind, Place, Plan};
 
 // Numbers into the first places of a list; those after them stay.
+#[tactic(auto, unfolding(crate::specs::Answers::laid))]
 fn put_first(out: &mut [u64], ns: &[u64])
     requires { length ns.now ≤ length out.old }
     ensures { out.new ≡ laid ns.now out.old }
 {
-    numbers::put_numbers(out, 0, ns);
+    out[..ns.len()].copy_from_slice(ns);
 }
+
+// kept: a list with room is a clause here and in `files` and `texts`, and 1,649 numbers in `settle`, `open_on` and
+// `open_granted`: the C interface lends memory, and each looks at its length once.
 
 // One number into the first place.
 fn put_number(out: &mut [u64], n: u64)
     requires { 1 ≤ length out.old }
     ensures { out.new ≡ laid (n ∷ []) out.old }
 {
-    let ns = [n];
-    put_first(out, &ns);
-}
-
-fn one_if(b: bool) -> u64
-    ensures { result ≡ cond b 1 0 }
-{
-    if b { 1 } else { 0 }
+    put_first(out, &[n]);
 }
 
 // What a call's answer is returned as.
@@ -49,14 +46,13 @@ fn answer_code(x: Answer) -> u64
     ensures { result ≡ answer_code x }
 {
     match x {
-        Answer::Done => 1000,
-        Answer::Charged(_) => 1000,
-        Answer::UpTo(_) => 1000,
-        Answer::Refused(n) => n,
+        Ok(_) => 1000,
+        Err(refusal) => refusal.into(),
     }
 }
 
 // Is it the numbers of a sound account?
+#[tactic(auto, unfolding(crate::specs::Calls::sound_numbers))]
 fn sound_held(account: &[u64]) -> bool
     ensures { result ≡ sound_numbers account.now }
 {
@@ -64,45 +60,42 @@ fn sound_held(account: &[u64]) -> bool
         return false;
     }
     let state = numbers::state_held(account);
-    account::parts_fit(state, &account[..1599])
+    account::parts_fit(state, account.first_chunk::<1599>().unwrap())
 }
 
+// Kept: kinds, places and calls come as numbers, and 1000, 1001 and 1002 are returned beside the refusals, as the C
+// interface has them (include/meter.h).
+#[tactic(auto, unfolding(crate::specs::Calls::kind_from))]
 fn kind_of(n: u64) -> Kind
     ensures { result ≡ kind_from n }
 {
-    if n == 0 {
-        return Kind::Data;
+    match n {
+        0 => Kind::Data,
+        1 => Kind::Outgoing,
+        2 => Kind::Incoming,
+        _ => Kind::Sms,
     }
-    if n == 1 {
-        return Kind::Outgoing;
-    }
-    if n == 2 {
-        return Kind::Incoming;
-    }
-    Kind::Sms
 }
 
+#[tactic(auto, unfolding(crate::specs::Calls::place_named))]
 fn place_of(n: u64) -> Place
     ensures { result ≡ place_named n }
 {
-    if n == 0 {
-        return Place::Home;
+    match n {
+        0 => Place::Home,
+        1 => Place::Zone,
+        _ => Place::Elsewhere,
     }
-    if n == 1 {
-        return Place::Zone;
-    }
-    Place::Elsewhere
 }
 
 // What an accepted call makes of all but the log, over the old numbers.
+#[tactic(auto, unfolding(crate::specs::Calls::settled))]
 fn settle(account: &mut [u64], done: StateApplied)
     requires { (length account.old ≡ 1649) × Settles done }
     ensures { account.new ≡ settled done account.old }
 {
-    let x = done.answer;
-    let next = done.state;
-    if state::taken(x) {
-        numbers::put_state(account, next);
+    if done.answer.is_ok() {
+        numbers::put_state(account, done.state);
     }
 }
 
@@ -111,9 +104,8 @@ fn put_charge(out: &mut [u64], c: Charge)
     requires { 5 ≤ length out.old }
     ensures { out.new ≡ laid (charge_numbers c) out.old }
 {
-    let notice = one_if(c.notice);
-    let ns = [c.home, c.extra, c.surcharged, c.charged, notice];
-    put_first(out, &ns);
+    let notice = u64::from(c.notice);
+    put_first(out, &[c.home, c.extra, c.surcharged, c.charged, notice]);
 }
 
 // What a call answers, beyond its code, into a list with room for it.
@@ -122,22 +114,9 @@ fn put_answer(out: &mut [u64], x: Answer)
     ensures { out.new ≡ answer_laid x out.old }
 {
     match x {
-        Answer::Done => {}
-        Answer::Charged(c) => put_charge(out, c),
-        Answer::UpTo(n) => put_number(out, n),
-        Answer::Refused(_) => {}
-    }
-}
-
-// The first n numbers 0.
-fn blank(s: &mut [u64], n: usize)
-    requires { n ≤ length s.old }
-    ensures { s.new ≡ replicate n 0 ++ drop n s.old }
-{
-    let mut i: usize = 0;
-    while i < n {
-        s[i] = 0;
-        i += 1;
+        Ok(Outcome::Charged(c)) => put_charge(out, c),
+        Ok(Outcome::UpTo(n)) => put_number(out, n),
+        Ok(Outcome::Done) | Err(_) => {}
     }
 }
 
@@ -146,8 +125,6 @@ fn open_on(account: &mut [u64], p: Plan)
     requires { (length account.old ≡ 1649) × (is_accepted (plan_verdict p) ≡ true) }
     ensures { account.new ≡ account_numbers (open_answer p).account }
 {
-    blank(account, 1599);
-    let opened = account::open_with(p);
-    let state = opened.state;
-    numbers::put_state(account, state);
+    account[..1599].fill(0);
+    numbers::put_state(account, state::moves::opened_with(p));
 }

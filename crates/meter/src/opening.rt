@@ -3,10 +3,11 @@ ghost use Rattle.std.specs.Prelude.{◌≡◌};
 ghost use Rattle.meter.specs.Calls.{open_code, open_numbers};
 
 use super::open_on;
-use tariff::PlanAnswer;
+use tariff::Refusal;
 
 // A new account under a plan of seven numbers: form, start day, three prices, fee, volume. Refusals 0, for another
 // count of numbers, 1, 17, 18 and 2.
+#[tactic(auto, using(crate::proofs::Open::open_done, crate::proofs::Open::open_declined), unfolding(crate::specs::Calls::open_code, crate::specs::Calls::open_numbers, crate::specs::Calls::open_verdict))]
 pub fn meter_open(account: &mut [u64], plan: &[u64]) -> u64
     ensures code { result ≡ open_code account.old plan.now }
     ensures numbers { account.new ≡ open_numbers account.old plan.now }
@@ -15,14 +16,13 @@ pub fn meter_open(account: &mut [u64], plan: &[u64]) -> u64
         return 1001;
     }
     if account.len() != 1649 {
-        return 0;
+        return Refusal::Unsound.into();
     }
-    let granted = tariff::plans::plan_from(numbers::terms_of(plan));
-    match granted {
-        PlanAnswer::Granted(p) => {
+    match tariff::plans::plan_from(numbers::terms_of(plan)) {
+        Ok(p) => {
             open_on(account, p);
             1000
         }
-        PlanAnswer::Refused(n) => n,
+        Err(refusal) => refusal.into(),
     }
 }

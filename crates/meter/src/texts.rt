@@ -7,28 +7,30 @@ ghost use Rattle.textlines.specs.Text.{calls_of};
 
 use super::files::put_written;
 use super::put_number;
-use textlines::TextRead;
+use tariff::Refusal;
+use textlines::TextError;
 
 // What reading answered: how many calls there are, or the line that is not of the form.
-fn put_read(out: &mut [u64], r: TextRead) -> u64
+fn put_read(out: &mut [u64], r: Result<usize, TextError>) -> u64
     requires { 1 ≤ length out.old }
     ensures code { result ≡ text_code r }
     ensures answered { out.new ≡ text_laid r out.old }
 {
     match r {
-        TextRead::Calls(n) => {
+        Ok(n) => {
             put_number(out, n as u64);
             1000
         }
-        TextRead::BadLine(k) => {
-            put_number(out, k as u64);
-            22
+        Err(TextError::BadLine(line)) => {
+            put_number(out, line as u64);
+            Refusal::LineForm.into()
         }
-        TextRead::Refused(n) => n,
+        Err(TextError::Refused(refusal)) => refusal.into(),
     }
 }
 
 // Reads the calls of a text into the lists: 21, 22, 16.
+#[tactic(auto, unfolding(crate::specs::Texts::text_read_code, crate::specs::Texts::text_read_laid, crate::specs::Texts::text_read_list))]
 pub fn meter_text_read(
     text: &[u8],
     codes: &mut [u32],
@@ -48,11 +50,11 @@ pub fn meter_text_read(
     if answer.len() < 1 {
         return 1001;
     }
-    let read = textlines::reading::read(text, codes, numbers);
-    put_read(answer, read)
+    put_read(answer, textlines::reading::read(text, codes, numbers))
 }
 
 // Writes the calls as text into the buffer: 14, 15, 21, 16.
+#[tactic(auto, unfolding(crate::specs::Texts::text_write_code, crate::specs::Texts::text_write_laid, crate::specs::Texts::text_write_buffer))]
 pub fn meter_text_write(codes: &[u32], numbers: &[u32], text: &mut [u8], answer: &mut [u64]) -> u64
     ensures code { result ≡ text_write_code codes.now numbers.now text.old
         answer.old }
@@ -64,6 +66,5 @@ pub fn meter_text_write(codes: &[u32], numbers: &[u32], text: &mut [u8], answer:
     if answer.len() < 1 {
         return 1001;
     }
-    let w = textlines::export::export(codes, numbers, text);
-    put_written(answer, w)
+    put_written(answer, textlines::export::export(codes, numbers, text))
 }

@@ -1,17 +1,14 @@
 -- An account as numbers: its log, then all else, group by group (account-2, library-1, library-2). docs/LIBRARY.md has
 -- the layout. Choices (docs/DECISIONS.md, "The library"): zone data limit as a number; a service's state as a number;
 -- order of the numbers. Assumes nothing.
-use Rattle.std.specs.Prelude.{ℕ, ◌+◌, ◌-◌, ◌≡◌, Bool, true, cond, ◌&&◌, List, [], ◌∷◌, ◌++◌, length, get_or, take, drop, leb, eqb}
+use Rattle.std.specs.Prelude.{ℕ, ◌+◌, ◌-◌, ◌≡◌, Bool, true, cond, ◌&&◌, List, [], ◌∷◌, ◌++◌, length, get_or, take, drop, leb, eqb, Option, None, Some}
 use Rattle.tariff.specs.declared.Units.{Units}
+use Rattle.tariff.specs.declared.Place.{Place}
 use Rattle.tariff.specs.declared.Place.TheVariants.{Home, Zone, Elsewhere}
 use Rattle.tariff.specs.declared.Plan.{Plan}
 use Rattle.tariff.specs.declared.Terms.{Terms}
-use Rattle.tariff.specs.declared.Allowance.{Allowance}
-use Rattle.tariff.specs.declared.Allowance.TheVariants.{NoLimit, Kilobytes}
 use Rattle.tariff.specs.Plan.{form_word, plan_with}
 use Rattle.tariff.specs.Units.{each}
-use Rattle.presence.specs.declared.Location.{Location}
-use Rattle.presence.specs.declared.Location.TheVariants.{Nowhere, At}
 use Rattle.presence.specs.declared.ServiceState.{ServiceState}
 use Rattle.presence.specs.declared.ServiceState.TheVariants.{Clear, Warned, Surcharged}
 use Rattle.presence.specs.declared.Services.{Services}
@@ -24,24 +21,24 @@ use Rattle.state.specs.Sound.{allowance_fits, warning_fits}
 use Rattle.account.specs.declared.Account.{Account}
 
 -- library-2: 0 none, 1 home, 2 zone, 3 elsewhere
-abbrev pub place_number : Location → ℕ
-place_number Nowhere = 0
-place_number (At Home) = 1
-place_number (At Zone) = 2
-place_number (At Elsewhere) = 3
+abbrev pub place_number : Option Place → ℕ
+place_number None = 0
+place_number (Some Home) = 1
+place_number (Some Zone) = 2
+place_number (Some Elsewhere) = 3
 
 -- library-2: the place of such a number
-abbrev pub place_from : ℕ → Location
-place_from n = cond (eqb n 0) Nowhere (cond (eqb n 1) (At Home) (cond (eqb n 2) (At Zone) (At Elsewhere)))
+abbrev pub place_from : ℕ → Option Place
+place_from n = cond (eqb n 0) None (cond (eqb n 1) (Some Home) (cond (eqb n 2) (Some Zone) (Some Elsewhere)))
 
 -- library-2: L, 0 for none, else one more than its kB
-abbrev pub allowance_number : Allowance → ℕ
-allowance_number NoLimit = 0
-allowance_number (Kilobytes l) = l + 1
+abbrev pub allowance_number : Option ℕ → ℕ
+allowance_number None = 0
+allowance_number (Some l) = l + 1
 
 -- library-2: the L of such a number
-abbrev pub allowance_from : ℕ → Allowance
-allowance_from n = cond (eqb n 0) NoLimit (Kilobytes (n - 1))
+abbrev pub allowance_from : ℕ → Option ℕ
+allowance_from n = cond (eqb n 0) None (Some (n - 1))
 
 -- library-2: 0 Clear, 1 Surcharged, else two more than the age of the warning
 abbrev pub service_number : ServiceState → ℕ

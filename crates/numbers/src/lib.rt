@@ -7,67 +7,53 @@ ghost use Rattle.std.specs.Prelude.{◌≡◌, true, ◌++◌, ◌+◌, ◌≤�
 ghost use Rattle.tariff.specs.Plan.{form_word};
 ghost use Rattle.state.specs.Sound.{allowance_fits, warning_fits};
 ghost use Rattle.numbers.specs.Numbers.{place_number, place_from, allowance_number, allowance_from};
-ghost use Rattle.presence.specs.Log.{numbers_of};
 ghost use Rattle.numbers.specs.Numbers.{service_number, service_from, terms_from, money_from};
 ghost use Rattle.numbers.specs.Numbers.{front_numbers, meters_numbers, quota_numbers, end_numbers};
 ghost use Rattle.numbers.specs.Numbers.{meters_from, quota_from, services_from, state_numbers, state_from};
-ghost use Rattle.numbers.specs.Numbers.{log_part, account_from, tags_known, is_account, Writable};
+ghost use Rattle.numbers.specs.Numbers.{log_part, rest_part, account_from, tags_known, is_account, Writable};
 
-use presence::{Day, Location, ServiceState, Services};
+use presence::{Location, ServiceState, Services};
 use state::{Meters, Money, Quota, State};
 use tariff::{Allowance, Form, Place, Terms};
 
-fn number_of_place(p: Place) -> u64
-    ensures { result ≡ place_number (Location.At p) }
-{
-    match p {
-        Place::Home => 1,
-        Place::Zone => 2,
-        Place::Elsewhere => 3,
-    }
-}
-
+// Kept: functions for these numbers, since std's `From` may not be implemented here for types of other crates.
 fn number_of_location(w: Location) -> u64
     ensures { result ≡ place_number w }
 {
     match w {
-        Location::Nowhere => 0,
-        Location::At(p) => number_of_place(p),
+        None => 0,
+        Some(Place::Home) => 1,
+        Some(Place::Zone) => 2,
+        Some(Place::Elsewhere) => 3,
     }
 }
 
 fn location_of(n: u64) -> Location
     ensures { result ≡ place_from n }
 {
-    if n == 0 {
-        return Location::Nowhere;
+    match n {
+        0 => None,
+        1 => Some(Place::Home),
+        2 => Some(Place::Zone),
+        _ => Some(Place::Elsewhere),
     }
-    if n == 1 {
-        return Location::At(Place::Home);
-    }
-    if n == 2 {
-        return Location::At(Place::Zone);
-    }
-    Location::At(Place::Elsewhere)
 }
 
+// kept: the bound of L is a clause, since an account has any (`sound` looks at it), and it is a number in one of 1,649.
 pub fn number_of_allowance(l: Allowance) -> u64
     requires { allowance_fits l ≡ true }
     ensures { result ≡ allowance_number l }
 {
     match l {
-        Allowance::NoLimit => 0,
-        Allowance::Kilobytes(n) => n + 1,
+        None => 0,
+        Some(n) => n + 1,
     }
 }
 
 fn allowance_of(n: u64) -> Allowance
     ensures { result ≡ allowance_from n }
 {
-    if n == 0 {
-        return Allowance::NoLimit;
-    }
-    Allowance::Kilobytes(n - 1)
+    n.checked_sub(1)
 }
 
 fn number_of_service(s: ServiceState) -> u64
@@ -76,57 +62,46 @@ fn number_of_service(s: ServiceState) -> u64
 {
     match s {
         ServiceState::Clear => 0,
-        ServiceState::Warned(n) => n + 2,
         ServiceState::Surcharged => 1,
+        ServiceState::Warned(n) => n + 2,
     }
 }
 
 fn service_of(n: u64) -> ServiceState
     ensures { result ≡ service_from n }
 {
-    if n == 0 {
-        return ServiceState::Clear;
+    match n {
+        0 => ServiceState::Clear,
+        1 => ServiceState::Surcharged,
+        _ => ServiceState::Warned(n - 2),
     }
-    if n == 1 {
-        return ServiceState::Surcharged;
-    }
-    ServiceState::Warned(n - 2)
 }
 
+// Kept: it is public, and promises the number of 64 bits that the box gets.
 pub fn number_of_form(f: Form) -> u64
     ensures { result ≡ form_word f }
 {
-    match f {
-        Form::Prepaid => 0,
-        Form::Bundle => 1,
-        Form::Unlimited => 2,
-    }
+    u32::from(f).into()
 }
 
 // Plan, day, place and money as numbers.
 fn front_of(a: State) -> [u64; 13]
     ensures { result ≡ front_numbers a }
 {
-    let p = a.plan;
-    let f = p.form;
-    let form = number_of_form(f);
-    let w = a.place;
-    let place = number_of_location(w);
-    let m = a.money;
     [
-        form,
-        p.start,
-        p.pergb,
-        p.perminute,
-        p.persms,
-        p.fee,
-        p.volume,
+        number_of_form(a.plan.form),
+        a.plan.start,
+        a.plan.pergb,
+        a.plan.perminute,
+        a.plan.persms,
+        a.plan.fee,
+        a.plan.volume,
         a.day,
-        place,
-        m.credit,
-        m.paid,
-        m.homecharges,
-        m.surcharges,
+        number_of_location(a.place),
+        a.money.credit,
+        a.money.paid,
+        a.money.homecharges,
+        a.money.surcharges,
     ]
 }
 
@@ -134,53 +109,24 @@ fn front_of(a: State) -> [u64; 13]
 fn meters_numbers(m: Meters) -> [u64; 17]
     ensures { result ≡ meters_numbers m }
 {
-    let used = m.lifetime;
-    let billed = m.billed;
-    let past = m.surcharged;
-    let basis = m.basis;
     [
-        used.kb,
-        used.outgoing,
-        used.incoming,
-        used.sms,
+        m.lifetime.kb,
+        m.lifetime.outgoing,
+        m.lifetime.incoming,
+        m.lifetime.sms,
         m.chargedseconds,
-        billed.kb,
-        billed.outgoing,
-        billed.incoming,
-        billed.sms,
-        past.kb,
-        past.outgoing,
-        past.incoming,
-        past.sms,
-        basis.kb,
-        basis.outgoing,
-        basis.incoming,
-        basis.sms,
-    ]
-}
-
-// A day as the log keeps it.
-fn day_numbers(d: Day) -> [u64; 13]
-    ensures { result ≡ numbers_of d }
-{
-    let marks = presence::log::marks_of(d);
-    let home = d.athome;
-    let zone = d.inzone;
-    let away = d.outside;
-    [
-        marks,
-        home.kb,
-        home.outgoing,
-        home.incoming,
-        home.sms,
-        zone.kb,
-        zone.outgoing,
-        zone.incoming,
-        zone.sms,
-        away.kb,
-        away.outgoing,
-        away.incoming,
-        away.sms,
+        m.billed.kb,
+        m.billed.outgoing,
+        m.billed.incoming,
+        m.billed.sms,
+        m.surcharged.kb,
+        m.surcharged.outgoing,
+        m.surcharged.incoming,
+        m.surcharged.sms,
+        m.basis.kb,
+        m.basis.outgoing,
+        m.basis.incoming,
+        m.basis.sms,
     ]
 }
 
@@ -189,9 +135,7 @@ fn quota_numbers(q: Quota) -> [u64; 3]
     requires { allowance_fits q.allowance ≡ true }
     ensures { result ≡ quota_numbers q }
 {
-    let l = q.allowance;
-    let limit = number_of_allowance(l);
-    [q.monthly, q.roamed, limit]
+    [q.monthly, q.roamed, number_of_allowance(q.allowance)]
 }
 
 // How many days are logged, and the services, as numbers.
@@ -199,14 +143,12 @@ fn end_of(a: State) -> [u64; 4]
     requires { Writable a }
     ensures { result ≡ end_numbers a }
 {
-    let services = a.services;
-    let s0 = services.internet;
-    let s1 = services.calls;
-    let s2 = services.messages;
-    let data = number_of_service(s0);
-    let calls = number_of_service(s1);
-    let sms = number_of_service(s2);
-    [a.logged, data, calls, sms]
+    [
+        a.logged,
+        number_of_service(a.services.internet),
+        number_of_service(a.services.calls),
+        number_of_service(a.services.messages),
+    ]
 }
 
 // The terms of seven numbers, the first of a list.
@@ -214,140 +156,111 @@ pub fn terms_of(ys: &[u64]) -> Terms
     requires { 7 ≤ length ys.now }
     ensures { result ≡ terms_from ys.now }
 {
-    let form = ys[0];
-    let start = ys[1];
-    let pergb = ys[2];
-    let perminute = ys[3];
-    let persms = ys[4];
-    let fee = ys[5];
-    let volume = ys[6];
     Terms {
-        form: form,
-        start: start,
-        pergb: pergb,
-        perminute: perminute,
-        persms: persms,
-        fee: fee,
-        volume: volume,
+        form: ys[0],
+        start: ys[1],
+        pergb: ys[2],
+        perminute: ys[3],
+        persms: ys[4],
+        fee: ys[5],
+        volume: ys[6],
     }
 }
 
-fn meters_of(ys: &[u64]) -> Meters
-    requires { length ys.now ≡ 50 }
-    ensures { result ≡ meters_from ys.now }
-{
-    let lifetime = presence::log::units_at(ys, 13);
-    let charged = ys[17];
-    let billed = presence::log::units_at(ys, 18);
-    let surcharged = presence::log::units_at(ys, 22);
-    let basis = presence::log::units_at(ys, 26);
-    Meters {
-        lifetime: lifetime,
-        chargedseconds: charged,
-        billed: billed,
-        surcharged: surcharged,
-        basis: basis,
-    }
-}
-
-fn quota_of(ys: &[u64]) -> Quota
-    requires { length ys.now ≡ 50 }
-    ensures { result ≡ quota_from ys.now }
-{
-    let monthly = ys[30];
-    let roamed = ys[31];
-    let allowance = allowance_of(ys[32]);
-    Quota {
-        monthly: monthly,
-        roamed: roamed,
-        allowance: allowance,
-    }
-}
-
-fn services_of(ys: &[u64]) -> Services
-    requires { length ys.now ≡ 50 }
-    ensures { result ≡ services_from ys.now }
-{
-    let internet = service_of(ys[47]);
-    let calls = service_of(ys[48]);
-    let messages = service_of(ys[49]);
-    Services {
-        internet: internet,
-        calls: calls,
-        messages: messages,
-    }
-}
-
-fn money_of(ys: &[u64]) -> Money
-    requires { length ys.now ≡ 50 }
+fn money_of(ys: &[u64; 50]) -> Money
     ensures { result ≡ money_from ys.now }
 {
-    let credit = ys[9];
-    let paid = ys[10];
-    let homecharges = ys[11];
-    let surcharges = ys[12];
     Money {
-        credit: credit,
-        paid: paid,
-        homecharges: homecharges,
-        surcharges: surcharges,
+        credit: ys[9],
+        paid: ys[10],
+        homecharges: ys[11],
+        surcharges: ys[12],
+    }
+}
+
+fn meters_of(ys: &[u64; 50]) -> Meters
+    ensures { result ≡ meters_from ys.now }
+{
+    Meters {
+        lifetime: presence::log::units_at(ys, 13),
+        chargedseconds: ys[17],
+        billed: presence::log::units_at(ys, 18),
+        surcharged: presence::log::units_at(ys, 22),
+        basis: presence::log::units_at(ys, 26),
+    }
+}
+
+fn quota_of(ys: &[u64; 50]) -> Quota
+    ensures { result ≡ quota_from ys.now }
+{
+    Quota {
+        monthly: ys[30],
+        roamed: ys[31],
+        allowance: allowance_of(ys[32]),
+    }
+}
+
+fn services_of(ys: &[u64; 50]) -> Services
+    ensures { result ≡ services_from ys.now }
+{
+    Services {
+        internet: service_of(ys[47]),
+        calls: service_of(ys[48]),
+        messages: service_of(ys[49]),
     }
 }
 
 // All of an account but its log, from its 50 numbers.
-fn state_of(ys: &[u64]) -> State
-    requires { length ys.now ≡ 50 }
+#[tactic(auto, unfolding(crate::specs::Numbers::state_from))]
+fn state_of(ys: &[u64; 50]) -> State
     ensures { result ≡ state_from ys.now }
 {
-    let plan = tariff::plans::plan_with(terms_of(ys));
-    let day = ys[7];
-    let place = location_of(ys[8]);
-    let money = money_of(ys);
-    let meters = meters_of(ys);
-    let quota = quota_of(ys);
-    let today = presence::log::day_in(ys, 33);
-    let logged = ys[46];
-    let services = services_of(ys);
     State {
-        plan: plan,
-        day: day,
-        place: place,
-        money: money,
-        meters: meters,
-        quota: quota,
-        today: today,
-        logged: logged,
-        services: services,
+        plan: tariff::plans::plan_with(terms_of(ys)),
+        day: ys[7],
+        place: location_of(ys[8]),
+        money: money_of(ys),
+        meters: meters_of(ys),
+        quota: quota_of(ys),
+        today: presence::log::day_in(ys, 33),
+        logged: ys[46],
+        services: services_of(ys),
     }
 }
 
 // Are form, place and today's marks numbers that stand for one?
-fn known(ys: &[u64]) -> bool
-    requires { length ys.now ≡ 50 }
+#[tactic(auto, unfolding(crate::specs::Numbers::tags_known))]
+fn known(ys: &[u64; 50]) -> bool
     ensures { result ≡ tags_known ys.now }
 {
-    let form = ys[0];
-    let place = ys[8];
-    let marks = ys[33];
-    (form <= 2) & (place <= 3) & (marks <= 7)
+    ys[0] <= 2 && ys[8] <= 3 && ys[33] <= 7
+}
+
+// The 50 numbers behind the log.
+#[tactic(auto, unfolding(crate::specs::Numbers::rest_part))]
+fn rest_of(account: &[u64]) -> &[u64; 50]
+    requires { length account.now ≡ 1649 }
+    ensures { result.now ≡ rest_part account.now }
+{
+    account.last_chunk::<50>().unwrap()
 }
 
 // Do the numbers stand for an account?
+#[tactic(auto, unfolding(crate::specs::Numbers::is_account))]
 pub fn held(account: &[u64]) -> bool
     ensures { result ≡ is_account account.now }
 {
-    if account.len() != 1649 {
-        return false;
-    }
-    known(&account[1599..])
+    account.len() == 1649 && known(rest_of(account))
 }
 
 // All but the log of the account that the numbers stand for.
+// Kept: a slice here and in `put_state`, as the box lends one; as an array each caller would have to cut it once more.
+#[tactic(auto, unfolding(crate::specs::Numbers::account_from))]
 pub fn state_held(account: &[u64]) -> State
     requires { length account.now ≡ 1649 }
     ensures { result ≡ (account_from account.now).state }
 {
-    state_of(&account[1599..])
+    state_of(rest_of(account))
 }
 
 // Numbers into a list from a place on; those before and after stay.
@@ -356,29 +269,18 @@ pub fn put_numbers(s: &mut [u64], at: usize, xs: &[u64])
     ensures { s.new ≡ take at s.old
         ++ (xs.now ++ drop (at + length xs.now) s.old) }
 {
-    let mut i: usize = 0;
-    while i < xs.len() {
-        s[at + i] = xs[i];
-        i += 1;
-    }
+    s[at..at + xs.len()].copy_from_slice(xs);
 }
 
 // All but the log over the old numbers, group by group; the log stays.
+#[tactic(auto, unfolding(crate::specs::Numbers::log_part, crate::specs::Numbers::state_numbers))]
 pub fn put_state(account: &mut [u64], a: State)
     requires { (length account.old ≡ 1649) × Writable a }
     ensures { account.new ≡ log_part account.old ++ state_numbers a }
 {
-    let front = front_of(a);
-    put_numbers(account, 1599, &front);
-    let m = a.meters;
-    let meters = meters_numbers(m);
-    put_numbers(account, 1612, &meters);
-    let q = a.quota;
-    let quota = quota_numbers(q);
-    put_numbers(account, 1629, &quota);
-    let d = a.today;
-    let today = day_numbers(d);
-    put_numbers(account, 1632, &today);
-    let end = end_of(a);
-    put_numbers(account, 1645, &end);
+    account[1599..1612].copy_from_slice(&front_of(a));
+    account[1612..1629].copy_from_slice(&meters_numbers(a.meters));
+    account[1629..1632].copy_from_slice(&quota_numbers(a.quota));
+    account[1632..1645].copy_from_slice(&presence::log::numbers(a.today));
+    account[1645..1649].copy_from_slice(&end_of(a));
 }

@@ -10,11 +10,14 @@ use lib.Bits.{bit_or, or_lt, or_add_and, and_le_l, and_le_r}
 use lib.Dec.{eqb}
 use lib.Pow.{pow_pos}
 use borrow.Author.Tests.{eqb-true, eqb-false}
-use lib.ListN.{get_or}
+use lib.ListN.{get_or, take, drop, length, length-drop}
+use lib.Seq.{get_or-drop}
+use Rattle.std.specs.List.{fold}
+use Rattle.std.proofs.lemmas.List.Sums.{fold_more}
 use Rattle.tariff.specs.Units.{zero_units}
 use Rattle.presence.specs.declared.Day.{Day}
 use Rattle.presence.specs.Day.{empty_day}
-use Rattle.presence.specs.Held.{bits_of, bits_with, bits_over}
+use Rattle.presence.specs.Held.{bits_of, place_from, bits_with, bits_over}
 
 pub bits_none : (f : ℕ → ℕ) (n : ℕ) → n ≡ 0 → bits_of f n ≡ 0
 unfolding bits_of
@@ -23,6 +26,14 @@ bits_none f n e = rw e refl
 pub bits_next : (f : ℕ → ℕ) (n : ℕ) → bits_of f (n + 1) ≡ bit_or (bits_of f n) (f n)
 unfolding bits_of
 bits_next f n = rw (add-one n) refl
+
+-- the bits joined over a part of a list are those of its numbers
+pub bits_folded : (from n : ℕ) (xs : List ℕ) → from + n ≤ length xs → fold bit_or 0 (take n (drop from xs)) ≡ bits_of (place_from from xs) n
+unfolding bits_of
+bits_folded from zero xs h = refl
+bits_folded from (suc n) xs h =
+    let more = fold_more bit_or 0 (drop from xs) n 0 (omega (arith, length-drop from xs)) in
+    rw (add-one n, bits_folded from n xs (omega arith), get_or-drop from xs n 0) at more
 
 pub joined_none : (n : ℕ) (ds : List Day) → n ≡ 0 → bits_over n ds ≡ zero_units
 unfolding bits_over

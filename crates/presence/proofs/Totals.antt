@@ -1,17 +1,14 @@
 -- The sums of a window, one day at a time, and that those of a sound log stay small. Assumes nothing.
-use Rattle.presence.specs.declared.Column.TheVariants.{ZoneUnits, OtherUnits}
-use Rattle.presence.specs.declared.Column.{Column}
 use Prim.Native.Nat.{ℕ, zero, suc, ◌+◌, ◌-◌, ◌*◌, ◌≤◌, ◌<◌}
 use mathlib.Core.Path.{◌≡◌, refl, sym, ◌∙◌, ap}
 use mathlib.Core.Bool.{Bool, true, false, ◌&&◌, ◌||◌}
-use mathlib.Core.List.{List, map}
+use mathlib.Core.List.{List}
 use native.Mathlib.Omega.{arith}
 use native.Mathlib.Numerals.{sub-one}
 use lib.Dec.{eqb, leb, ltb}
-use lib.ListN.{get_or, set, length, get_or-map, length-set}
+use lib.ListN.{get_or, set, length}
 use lib.Seq.{get_or-set_same, get_or-set_other}
 use borrow.Author.Tests.{le-leb, ltb-false, eqb-true, eqb-false}
-use Rattle.tariff.specs.declared.Units.{Units}
 use Rattle.presence.specs.declared.Day.{Day}
 use Rattle.presence.specs.declared.DayKind.{DayKind}
 use Rattle.presence.specs.declared.DayKind.TheVariants.{HomeDay, ZoneDay, OffDay}
@@ -23,27 +20,24 @@ use Rattle.presence.specs.Day.{empty_day, day_units, zone_day, one_if_zone, on_d
 use Rattle.presence.specs.Window.{zone_units, other_units, sum_days, prevalent, prevalent_long, prevalent_short}
 use Rattle.presence.specs.Service.{state_step, next_state}
 use Rattle.presence.specs.Log.{days_of, units_over}
-use Rattle.presence.specs.Held.{Low, SameMarks, marked_day, long_asked, short_asked, column, InColumn, sum_first}
+use Rattle.presence.specs.Held.{Low, SameMarks, marked_day, long_asked, short_asked}
 use Rattle.presence.proofs.Logs.{over_at, over_fewer}
 use Rattle.presence.proofs.Numbers.{day_at_is}
 
 -- what a window may add up: of a day, no more than its units, and 1
-abbrev pub Moderate : (Day → ℕ) → Type 0
+abbrev Moderate : (Day → ℕ) → Type 0
 Moderate f = (d : Day) → f d ≤ d.athome.kb + d.inzone.kb + d.outside.kb + (d.athome.outgoing + d.inzone.outgoing + d.outside.outgoing)
     + (d.athome.incoming + d.inzone.incoming + d.outside.incoming) + (d.athome.sms + d.inzone.sms + d.outside.sms) + 1
 
-pub zone_moderate : (s : Service) → Moderate (zone_units s)
+zone_moderate : (s : Service) → Moderate (zone_units s)
 zone_moderate DataService d = omega arith
 zone_moderate CallService d = omega arith
 zone_moderate SmsService d = omega arith
 
-pub other_moderate : (s : Service) → Moderate (other_units s)
+other_moderate : (s : Service) → Moderate (other_units s)
 other_moderate DataService d = omega arith
 other_moderate CallService d = omega arith
 other_moderate SmsService d = omega arith
-
-abbrev total : Units → ℕ
-total u = u.kb + u.outgoing + u.incoming + u.sms
 
 -- the sums over no day, and over one day more
 pub sum_none : (f : Day → ℕ) (w : ℕ) (ds : List Day) → w ≡ 0 → sum_days f w ds ≡ 0
@@ -55,19 +49,14 @@ unfolding sum_days
 sum_more f zero ds h = absurd (h refl)
 sum_more f (suc w) ds h = rw (sub-one (suc w)) refl
 
--- a count asks only for the marks, so that of the marks is that of the days
-same_sums : (f : Day → ℕ) (w : ℕ) (ds es : List Day) → ((k : ℕ) → k < w → f (get_or ds k empty_day) ≡ f (get_or es k empty_day)) → sum_days f w ds ≡ sum_days f w es
-unfolding sum_days
-same_sums f zero ds es h = refl
-same_sums f (suc w) ds es h = rw (h w (omega arith), same_sums f w ds es (λ k l. h k (omega arith))) refl
-
-pub zone_marked : (w : ℕ) (xs ms : List ℕ) → w ≤ 123 → SameMarks w xs ms → sum_days zone_day w (map marked_day ms) ≡ sum_days zone_day w (days_of xs)
+-- a count asks only for the marks
+pub zone_marked : (w k r : ℕ) (xs ms : List ℕ) → w ≤ 123 → SameMarks w xs ms → k < w → r ≡ zone_day (marked_day (get_or ms k 0)) → r ≡ zone_day (get_or (days_of xs) k empty_day)
 unfolding zone_day counts_as
-zone_marked w xs ms h s = same_sums zone_day w (map marked_day ms) (days_of xs) (λ k l. ap zone_day (get_or-map marked_day ms k 0) ∙ ap (λ (m : ℕ). zone_day (marked_day m)) (s k l) ∙ sym (ap zone_day (day_at_is k xs (omega arith))))
+zone_marked w k r xs ms h s l e = e ∙ ap (λ (m : ℕ). zone_day (marked_day m)) (s k l) ∙ sym (ap zone_day (day_at_is k xs (omega arith)))
 
-pub on_marked : (w : ℕ) (xs ms : List ℕ) → w ≤ 123 → SameMarks w xs ms → sum_days on_day w (map marked_day ms) ≡ sum_days on_day w (days_of xs)
+pub on_marked : (w k r : ℕ) (xs ms : List ℕ) → w ≤ 123 → SameMarks w xs ms → k < w → r ≡ on_day (marked_day (get_or ms k 0)) → r ≡ on_day (get_or (days_of xs) k empty_day)
 unfolding on_day counts_as
-on_marked w xs ms h s = same_sums on_day w (map marked_day ms) (days_of xs) (λ k l. ap on_day (get_or-map marked_day ms k 0) ∙ ap (λ (m : ℕ). on_day (marked_day m)) (s k l) ∙ sym (ap on_day (day_at_is k xs (omega arith))))
+on_marked w k r xs ms h s l e = e ∙ ap (λ (m : ℕ). on_day (marked_day m)) (s k l) ∙ sym (ap on_day (day_at_is k xs (omega arith)))
 
 -- the marks, one day more
 pub marks_more : (i : ℕ) (xs ms : List ℕ) → i < length ms → SameMarks i xs ms → SameMarks (i + 1) xs (set ms i (get_or xs (13 * i) 0))
@@ -77,43 +66,29 @@ marks_more i xs ms h s k l = go (eqb k i) refl
     go true q = rw (eqb-true k i q) (get_or-set_same ms i (get_or xs (13 * i) 0) 0 h)
     go false q = let n = eqb-false k i q in get_or-set_other ms i k (get_or xs (13 * i) 0) 0 n ∙ s k (omega (arith, n))
 
--- no sum over the logged days is above their units, and no count above the days
-sum_bounded : (f : Day → ℕ) → Moderate f → (w : ℕ) (ds : List Day) → sum_days f w ds ≤ total (units_over w ds) + w
-unfolding sum_days units_over
-sum_bounded f m zero ds = omega arith
-sum_bounded f m (suc w) ds = omega (arith, sum_bounded f m w ds, m (get_or ds w empty_day))
-
-pub sum_small : (f : Day → ℕ) → Moderate f → (w : ℕ) (ds : List Day) → w ≤ 123 → Low (units_over w ds) → sum_days f w ds ≤ 5000000000000
-sum_small f m w ds h l = omega (arith, sum_bounded f m w ds)
-
-counted : (f : Day → ℕ) → ((d : Day) → f d ≤ 1) → (w : ℕ) (ds : List Day) → sum_days f w ds ≤ w
-unfolding sum_days
-counted f m zero ds = omega arith
-counted f m (suc w) ds = omega (arith, counted f m w ds, m (get_or ds w empty_day))
-
 one_at_most : (k : DayKind) → (one_if_zone k ≤ 1) × (one_if_on k ≤ 1)
 one_at_most HomeDay = (omega arith, omega arith)
 one_at_most ZoneDay = (omega arith, omega arith)
 one_at_most OffDay = (omega arith, omega arith)
 
-pub zone_days_counted : (w : ℕ) (ds : List Day) → sum_days zone_day w ds ≤ w
+pub zone_at_most : (d : Day) (r : ℕ) → r ≡ zone_day d → r ≤ 5000000000000
 unfolding zone_day
-zone_days_counted w ds = counted zone_day (λ d. (one_at_most (counts_as d)).0) w ds
+zone_at_most d r e = omega (arith, e, one_at_most (counts_as d))
 
-pub on_days_counted : (w : ℕ) (ds : List Day) → sum_days on_day w ds ≤ w
+pub on_at_most : (d : Day) (r : ℕ) → r ≡ on_day d → r ≤ 5000000000000
 unfolding on_day
-on_days_counted w ds = counted on_day (λ d. (one_at_most (counts_as d)).1) w ds
+on_at_most d r e = omega (arith, e, one_at_most (counts_as d))
 
 -- a day's units are low where those of the days around it are
 pub day_low : (n i : ℕ) (ds : List Day) → i < n → Low (units_over n ds) → Low (day_units (get_or ds i empty_day))
 day_low n i ds h l = omega (arith, over_at n i ds h)
 
 -- so are those of fewer days
-pub fewer_low : (w n : ℕ) (ds : List Day) → w ≤ n → n ≤ 123 → Low (units_over n ds) → (w ≤ 123) × Low (units_over w ds)
-fewer_low w n ds h few l = (omega arith, omega (arith, over_fewer w n ds h))
+pub fewer_low : (w n : ℕ) (ds : List Day) → w ≤ n → Low (units_over n ds) → Low (units_over w ds)
+fewer_low w n ds h l = omega (arith, over_fewer w n ds h)
 
 -- a step does not depend on a window that it does not ask for
-pub step_asked : (full long short a b : Bool) (state : ServiceState) → (long_asked full state ≡ true → a ≡ true) → (short_asked state ≡ true → b ≡ true)
+step_asked : (full long short a b : Bool) (state : ServiceState) → (long_asked full state ≡ true → a ≡ true) → (short_asked state ≡ true → b ≡ true)
     → state_step full (a && long) (b && short) state ≡ state_step full long short state
 step_asked true long short a b Clear f g = rw (f refl) refl
 step_asked false long short a b Clear f g = refl
@@ -142,32 +117,9 @@ asked_third true y z e = refl
 asked_third false true z e = refl
 asked_third false false z e = e
 
--- ---- a sum over an array of what the days add
+-- no units of a logged day are large
+pub zone_small : (s : Service) (n i : ℕ) (ds : List Day) → i < n → Low (units_over n ds) → zone_units s (get_or ds i empty_day) ≤ 5000000000000
+zone_small s n i ds h l = omega (arith, zone_moderate s (get_or ds i empty_day), over_at n i ds h)
 
-pub sum_first_none : (w : ℕ) (xs : List ℕ) → w ≡ 0 → sum_first w xs ≡ 0
-unfolding sum_first
-sum_first_none w xs e = rw e refl
-
-pub sum_first_more : (w : ℕ) (xs : List ℕ) → (w ≡ 0 → ⊥) → sum_first w xs ≡ get_or xs (w - 1) 0 + sum_first (w - 1) xs
-unfolding sum_first
-sum_first_more zero xs h = absurd (h refl)
-sum_first_more (suc w) xs h = rw (sub-one (suc w)) refl
-
-pub column_summed : (c : Column) (w : ℕ) (ds : List Day) (xs : List ℕ) → InColumn c w ds xs → sum_first w xs ≡ sum_days (column c) w ds
-unfolding sum_first sum_days
-column_summed c zero ds xs f = refl
-column_summed c (suc w) ds xs f =
-    rw (f.filled w (omega arith), column_summed c w ds xs (record { places = f.places; filled = λ i h. f.filled i (omega arith) })) refl
-
--- no such sum is large
-pub column_small : (c : Column) (w : ℕ) (ds : List Day) → w ≤ 123 → Low (units_over w ds) → sum_days (column c) w ds ≤ 5000000000000
-column_small (ZoneUnits s) w ds h l = sum_small (zone_units s) (zone_moderate s) w ds h l
-column_small (OtherUnits s) w ds h l = sum_small (other_units s) (other_moderate s) w ds h l
-
--- one day more
-pub column_more : (c : Column) (i : ℕ) (ds : List Day) (xs : List ℕ) (x : ℕ) → i < 123 → InColumn c i ds xs → x ≡ column c (get_or ds i empty_day) → InColumn c (i + 1) ds (set xs i x)
-column_more c i ds xs x h f e = record { places = length-set xs i x ∙ f.places; filled = λ k l. go k l (eqb k i) refl }
-  where
-    go : (k : ℕ) → k < i + 1 → (b : Bool) → eqb k i ≡ b → get_or (set xs i x) k 0 ≡ column c (get_or ds k empty_day)
-    go k l true q = rw (eqb-true k i q) (get_or-set_same xs i x 0 (omega (arith, f.places)) ∙ e)
-    go k l false q = let n = eqb-false k i q in get_or-set_other xs i k x 0 n ∙ f.filled k (omega (arith, n))
+pub other_small : (s : Service) (n i : ℕ) (ds : List Day) → i < n → Low (units_over n ds) → other_units s (get_or ds i empty_day) ≤ 5000000000000
+other_small s n i ds h l = omega (arith, other_moderate s (get_or ds i empty_day), over_at n i ds h)

@@ -1,27 +1,26 @@
 -- The record of a day (its marks, and its units of each kind at each place), what the day counts as, and the log of
 -- days (day-1 to day-3, unit-3, use-1). Choices (docs/DECISIONS.md, "Account"): a top-up and marks; place over a day
 -- change; units on a day of another kind. Assumes nothing.
-use Rattle.std.specs.Prelude.{ℕ, Bool, true, false, cond, ◌||◌, List, ◌∷◌, take}
+use Rattle.std.specs.Prelude.{ℕ, Bool, true, false, cond, ◌||◌, Option, Some, None, List, ◌∷◌, take}
 use Rattle.tariff.specs.declared.Units.{Units}
+use Rattle.tariff.specs.declared.Place.{Place}
 use Rattle.tariff.specs.declared.Place.TheVariants.{Home, Zone, Elsewhere}
 use Rattle.tariff.specs.Units.{zero_units, ◌⊕◌, Adds}
-use Rattle.presence.specs.declared.Location.{Location}
-use Rattle.presence.specs.declared.Location.TheVariants.{Nowhere, At}
 use Rattle.presence.specs.declared.Day.{Day}
 use Rattle.presence.specs.declared.DayKind.{DayKind}
 use Rattle.presence.specs.declared.DayKind.TheVariants.{HomeDay, ZoneDay, OffDay}
 
 -- unit-3: the place is the zone
-abbrev pub in_zone : Location → Bool
-in_zone Nowhere = false
-in_zone (At Home) = false
-in_zone (At Zone) = true
-in_zone (At Elsewhere) = false
+abbrev pub in_zone : Option Place → Bool
+in_zone None = false
+in_zone (Some Home) = false
+in_zone (Some Zone) = true
+in_zone (Some Elsewhere) = false
 
 -- unit-3, refusal-3: there is a place
-abbrev pub is_placed : Location → Bool
-is_placed Nowhere = false
-is_placed (At p) = true
+abbrev pub is_placed : Option Place → Bool
+is_placed None = false
+is_placed (Some p) = true
 
 -- day-3, account-3: a day without marks and units
 abbrev pub empty_day : Day
@@ -35,9 +34,9 @@ empty_day = record {
 }
 
 -- register-1, use-1: the day marked with the place
-unfoldable pub mark_day : Location → Day → Day
-mark_day Nowhere d = d
-mark_day (At Home) d = record {
+unfoldable pub mark_day : Option Place → Day → Day
+mark_day None d = d
+mark_day (Some Home) d = record {
   home = true;
   zone = d.zone;
   elsewhere = d.elsewhere;
@@ -45,7 +44,7 @@ mark_day (At Home) d = record {
   inzone = d.inzone;
   outside = d.outside;
 }
-mark_day (At Zone) d = record {
+mark_day (Some Zone) d = record {
   home = d.home;
   zone = true;
   elsewhere = d.elsewhere;
@@ -53,7 +52,7 @@ mark_day (At Zone) d = record {
   inzone = d.inzone;
   outside = d.outside;
 }
-mark_day (At Elsewhere) d = record {
+mark_day (Some Elsewhere) d = record {
   home = d.home;
   zone = d.zone;
   elsewhere = true;
@@ -63,9 +62,9 @@ mark_day (At Elsewhere) d = record {
 }
 
 -- use-1: the day with units added at the place
-unfoldable pub add_day : Location → Units → Day → Day
-add_day Nowhere u d = d
-add_day (At Home) u d = record {
+unfoldable pub add_day : Option Place → Units → Day → Day
+add_day None u d = d
+add_day (Some Home) u d = record {
   home = d.home;
   zone = d.zone;
   elsewhere = d.elsewhere;
@@ -73,7 +72,7 @@ add_day (At Home) u d = record {
   inzone = d.inzone;
   outside = d.outside;
 }
-add_day (At Zone) u d = record {
+add_day (Some Zone) u d = record {
   home = d.home;
   zone = d.zone;
   elsewhere = d.elsewhere;
@@ -81,7 +80,7 @@ add_day (At Zone) u d = record {
   inzone = d.inzone ⊕ u;
   outside = d.outside;
 }
-add_day (At Elsewhere) u d = record {
+add_day (Some Elsewhere) u d = record {
   home = d.home;
   zone = d.zone;
   elsewhere = d.elsewhere;

@@ -1,11 +1,9 @@
 -- Aids to `presence`: what inner functions ask and answer (joined bits of numbers, sums that stay small, windows that a
 -- step asks for). No contract of an entry point cites them. Assumes nothing.
-use Rattle.std.specs.Prelude.{ℕ, zero, suc, ◌+◌, ◌*◌, ◌/◌, ◌%◌, ◌<◌, ◌≡◌, Bool, true, false, ◌&&◌, List, eqb, leb, get_or, length}
+use Rattle.std.specs.Prelude.{ℕ, zero, suc, ◌+◌, ◌*◌, ◌/◌, ◌%◌, ◌<◌, ◌≡◌, Bool, true, false, ◌&&◌, List, eqb, leb, get_or}
 use Rattle.std.specs.Int.Bits.{bit_or}
 use Rattle.tariff.specs.declared.Units.{Units}
 use Rattle.tariff.specs.Units.{each, zero_units, AtMost}
-use Rattle.presence.specs.declared.Column.{Column}
-use Rattle.presence.specs.declared.Column.TheVariants.{ZoneUnits, OtherUnits}
 use Rattle.presence.specs.declared.Day.{Day}
 use Rattle.presence.specs.declared.Prevalent.{Prevalent}
 use Rattle.presence.specs.declared.ServiceState.{ServiceState}
@@ -76,21 +74,6 @@ bits_over (suc n) ds = bits_with (bits_over n ds) (get_or ds n empty_day)
 -- aid: units within the limit of lifetime units
 abbrev pub Low : Units → Type 0
 Low u = AtMost u lifetime_most
-
--- aid: what a day adds to a sum of units
-abbrev pub column : Column → Day → ℕ
-column (ZoneUnits s) = zone_units s
-column (OtherUnits s) = other_units s
-
--- aid: 123 numbers, the first w of them what the w newest days add
-pub record InColumn (c : Column) (w : ℕ) (ds : List Day) (xs : List ℕ) : Type 0 where
-  pub places : length xs ≡ 123
-  pub filled : (i : ℕ) → i < w → get_or xs i 0 ≡ column c (get_or ds i empty_day)
-
--- aid: the sum of the first w numbers: that of one less, and the one before
-unfoldable pub sum_first : ℕ → List ℕ → ℕ
-sum_first zero xs = 0
-sum_first (suc w) xs = get_or xs w 0 + sum_first w xs
 
 -- aid: a service is prevalent over the w newest days
 abbrev pub prevails : Service → ℕ → List Day → Bool

@@ -11,14 +11,14 @@ pub mod window;
 use tariff::{Place, Units};
 
 // Where the hotspot is: nowhere before the first registration.
-#[derive(Clone, Copy)]
-pub enum Location {
-    Nowhere,
-    At(Place),
-}
+pub type Location = Option<Place>;
+
+// The log of the last 123 days, newest first, each day as 13 numbers: the marks as one number, then the units of each
+// kind at home, in the zone and elsewhere.
+pub type Log = [u64; 1599];
 
 // A day: its marks, and its units by kind and place.
-#[derive(Clone, Copy)]
+#[derive(Clone, Copy, Default)]
 pub struct Day {
     pub home: bool,
     pub zone: bool,
@@ -29,14 +29,14 @@ pub struct Day {
 }
 
 // What a day counts as.
-#[derive(Clone, Copy)]
+#[derive(Clone, Copy, PartialEq, Eq)]
 pub enum DayKind {
     HomeDay,
     ZoneDay,
     OffDay,
 }
 
-#[derive(Clone, Copy)]
+#[derive(Clone, Copy, PartialEq, Eq)]
 pub enum Service {
     DataService,
     CallService,
@@ -44,7 +44,7 @@ pub enum Service {
 }
 
 // Warned with its day changes so far.
-#[derive(Clone, Copy)]
+#[derive(Clone, Copy, PartialEq, Eq)]
 pub enum ServiceState {
     Clear,
     Warned(u64),
@@ -59,15 +59,8 @@ pub struct Services {
     pub messages: ServiceState,
 }
 
-// What a sum of units adds up: a service's zone units, or its other units.
-#[derive(Clone, Copy)]
-enum Column {
-    ZoneUnits(Service),
-    OtherUnits(Service),
-}
-
 // Which services are prevalent over a window of days.
-#[derive(Clone, Copy)]
+#[derive(Clone, Copy, Default)]
 pub struct Prevalent {
     internet: bool,
     calls: bool,

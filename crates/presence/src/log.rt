@@ -1,21 +1,20 @@
 // The log of the last 123 days.
-ghost use Rattle.std.specs.Prelude.{◌≡◌, true, false, cond, ◌++◌, ◌+◌, ◌-◌, ◌≤◌, ◌<◌, drop, replicate, take, get_or, length};
+ghost use Rattle.std.specs.Prelude.{◌≡◌, ◌++◌, ◌+◌, ◌-◌, ◌≤◌, ◌<◌, drop, replicate, get_or, length};
 ghost use Rattle.tariff.specs.Units.{◌⊕◌, each, AtMost};
 ghost use Rattle.presence.specs.Day.{empty_day, day_units};
 ghost use Rattle.presence.specs.Log.{marks_number, numbers_of, day_from, days_of, logged_with, units_over};
 ghost use Rattle.presence.specs.Log.{lifetime_most, log_within};
-ghost use Rattle.presence.specs.Held.{Roomy, Bounded, UnitsFit, bits_of, place_from, marks_kept, bits_with};
+ghost use Rattle.presence.specs.Held.{Roomy, Bounded, UnitsFit, bits_of, place_from, marks_kept, marked_day, bits_with};
 ghost use Rattle.presence.specs.Held.{bits_over, units_bits};
 
-use super::Day;
+use super::{Day, Log};
 use tariff::Units;
 
-// A log without days. The log is kept as 123 days of 13 numbers, newest day first: the marks as one number, then the
-// units of each kind at home, in the zone and elsewhere.
-pub fn log_empty() -> [u64; 1599]
+// A log without days.
+pub fn log_empty() -> Log
     ensures { result ≡ replicate 1599 0 }
 {
-    [0u64; 1599]
+    [0; 1599]
 }
 
 // Four numbers of a list, from place j on: units of each kind.
@@ -24,15 +23,23 @@ pub fn units_at(xs: &[u64], j: usize) -> Units
     ensures { result ≡ each (get_or xs.now j 0) (get_or xs.now (j + 1) 0)
         (get_or xs.now (j + 2) 0) (get_or xs.now (j + 3) 0) }
 {
-    let kb = xs[j];
-    let outgoing = xs[j + 1];
-    let incoming = xs[j + 2];
-    let sms = xs[j + 3];
     Units {
-        kb: kb,
-        outgoing: outgoing,
-        incoming: incoming,
-        sms: sms,
+        kb: xs[j],
+        outgoing: xs[j + 1],
+        incoming: xs[j + 2],
+        sms: xs[j + 3],
+    }
+}
+
+// A day with these marks and no units.
+pub(crate) fn marked_day(m: u64) -> Day
+    ensures { result ≡ marked_day m }
+{
+    Day {
+        home: m % 2 == 1,
+        zone: (m / 2) % 2 == 1,
+        elsewhere: (m / 4) % 2 == 1,
+        ..Day::default()
     }
 }
 
@@ -41,86 +48,58 @@ pub fn day_in(xs: &[u64], j: usize) -> Day
     requires { j + 13 ≤ length xs.now }
     ensures { result ≡ day_from (drop j xs.now) }
 {
-    let marks = xs[j];
-    let athome = units_at(xs, j + 1);
-    let inzone = units_at(xs, j + 5);
-    let outside = units_at(xs, j + 9);
     Day {
-        home: marks % 2 == 1,
-        zone: (marks / 2) % 2 == 1,
-        elsewhere: (marks / 4) % 2 == 1,
-        athome: athome,
-        inzone: inzone,
-        outside: outside,
+        athome: units_at(xs, j + 1),
+        inzone: units_at(xs, j + 5),
+        outside: units_at(xs, j + 9),
+        ..marked_day(xs[j])
     }
 }
 
 // Day i of the log; 0 is the newest.
-pub fn day_at(log: &[u64], i: usize) -> Day
-    requires { (i < 123) × (length log.now ≡ 1599) }
+#[tactic(auto, using(crate::proofs::Numbers::day_placed))]
+pub fn day_at(log: &Log, i: usize) -> Day
+    requires { i < 123 }
     ensures { result ≡ get_or (days_of log.now) i empty_day }
 {
     day_in(log, 13 * i)
-}
-
-// Every day one place on; the oldest drops.
-fn shift_days(log: &mut [u64])
-    requires { length log.old ≡ 1599 }
-    ensures { (length log.new ≡ 1599) × (drop 13 log.new ≡ take 1586 log.old) }
-{
-    let mut i: usize = 1599;
-    while i > 13 {
-        i -= 1;
-        log[i] = log[i - 13];
-    }
-}
-
-fn one_if(b: bool) -> u64
-    ensures { (result ≡ cond b 1 0) × (result ≤ 1) }
-{
-    if b { 1 } else { 0 }
 }
 
 // A day's marks as one number.
 pub fn marks_of(d: Day) -> u64
     ensures { result ≡ marks_number d }
 {
-    let home = one_if(d.home);
-    let zone = one_if(d.zone);
-    let elsewhere = one_if(d.elsewhere);
-    home + 2 * zone + 4 * elsewhere
+    u64::from(d.home) + 2 * u64::from(d.zone) + 4 * u64::from(d.elsewhere)
 }
 
-// The newest day's numbers.
-fn write_newest(log: &mut [u64], d: Day)
-    requires { length log.old ≡ 1599 }
-    ensures { log.new ≡ numbers_of d ++ drop 13 log.old }
+// A day's 13 numbers.
+#[tactic(auto, unfolding(crate::specs::Log::numbers_of))]
+pub fn numbers(d: Day) -> [u64; 13]
+    ensures { result ≡ numbers_of d }
 {
-    let h = d.athome;
-    let z = d.inzone;
-    let e = d.outside;
-    log[0] = marks_of(d);
-    log[1] = h.kb;
-    log[2] = h.outgoing;
-    log[3] = h.incoming;
-    log[4] = h.sms;
-    log[5] = z.kb;
-    log[6] = z.outgoing;
-    log[7] = z.incoming;
-    log[8] = z.sms;
-    log[9] = e.kb;
-    log[10] = e.outgoing;
-    log[11] = e.incoming;
-    log[12] = e.sms;
+    [
+        marks_of(d),
+        d.athome.kb,
+        d.athome.outgoing,
+        d.athome.incoming,
+        d.athome.sms,
+        d.inzone.kb,
+        d.inzone.outgoing,
+        d.inzone.incoming,
+        d.inzone.sms,
+        d.outside.kb,
+        d.outside.outgoing,
+        d.outside.incoming,
+        d.outside.sms,
+    ]
 }
 
-// The log with one day more.
-pub fn push(log: &mut [u64], d: Day)
-    requires { length log.old ≡ 1599 }
+// The log with one day more: every day one place on, the oldest dropped, and the new one in front.
+pub fn push(log: &mut Log, d: Day)
     ensures { log.new ≡ logged_with d log.old }
 {
-    shift_days(log);
-    write_newest(log, d);
+    log.copy_within(..1586, 13);
+    log[..13].copy_from_slice(&numbers(d));
 }
 
 // The sum with a day's units.
@@ -133,49 +112,40 @@ fn add_day(sum: Units, d: Day) -> Units
     tariff::amounts::plus(b, sum)
 }
 
+// kept: that n is at most 123 is a clause here and below; for the days of a window `Window` holds it, and n is
+// elsewhere the number that an account has beside its log.
+
 // The units of the first n days.
-fn tally(log: &[u64], n: usize) -> Units
-    requires { (n ≤ 123) × UnitsFit n log.now × (length log.now ≡ 1599) }
+#[tactic(auto, using(crate::proofs::Logs::over_none, crate::proofs::Logs::over_next))]
+fn tally(log: &Log, n: usize) -> Units
+    requires { (n ≤ 123) × UnitsFit n log.now }
     ensures { result ≡ units_over n (days_of log.now) }
 {
-    let mut sum = Units {
-        kb: 0,
-        outgoing: 0,
-        incoming: 0,
-        sms: 0,
-    };
-    let mut i: usize = 0;
-    while i < n {
+    let mut sum = Units::default();
+    for i in 0..n {
         sum = add_day(sum, day_at(log, i));
-        i += 1;
     }
     sum
 }
 
 // The bits of the numbers from one place to before another, joined: below a power of 2 exactly if each number is.
-fn bits_between(log: &[u64], from: usize, to: usize) -> u64
-    requires { (from ≤ to) × (to ≤ 1599) × (length log.now ≡ 1599) }
+fn bits_between(log: &Log, from: usize, to: usize) -> u64
+    requires { (from ≤ to) × (to ≤ 1599) }
     ensures { result ≡ bits_of (place_from from log.now) (to - from) }
 {
-    let mut bits: u64 = 0;
-    let mut i = from;
-    while i < to {
-        bits = bits | log[i];
-        i += 1;
-    }
-    bits
+    log[from..to].iter().fold(0, |bits, number| bits | *number)
 }
 
 // The same of the marks of the first n days.
-fn marks_bits(log: &[u64], n: usize) -> u64
-    requires { (n ≤ 123) × (length log.now ≡ 1599) }
+// Kept: beside `bits_between`, as it reads one number in 13.
+#[tactic(auto, using(crate::proofs::Bits::bits_none, crate::proofs::Bits::bits_next))]
+fn marks_bits(log: &Log, n: usize) -> u64
+    requires { n ≤ 123 }
     ensures { result ≡ bits_of (marks_kept log.now) n }
 {
-    let mut bits: u64 = 0;
-    let mut i: usize = 0;
-    while i < n {
-        bits = bits | log[13 * i];
-        i += 1;
+    let mut bits = 0;
+    for i in 0..n {
+        bits |= log[13 * i];
     }
     bits
 }
@@ -191,45 +161,34 @@ fn units_bits(u: Units) -> u64
 fn join_day(bits: Units, d: Day) -> Units
     ensures { result ≡ bits_with bits d }
 {
-    let h = d.athome;
-    let z = d.inzone;
-    let e = d.outside;
-    Units {
-        kb: h.kb | z.kb | e.kb | bits.kb,
-        outgoing: h.outgoing | z.outgoing | e.outgoing | bits.outgoing,
-        incoming: h.incoming | z.incoming | e.incoming | bits.incoming,
-        sms: h.sms | z.sms | e.sms | bits.sms,
-    }
+    let or = |m, n| m | n;
+    let near = tariff::amounts::kind_by_kind(or, d.athome, d.inzone);
+    let all = tariff::amounts::kind_by_kind(or, near, d.outside);
+    tariff::amounts::kind_by_kind(or, all, bits)
 }
 
 // The same of the first n days. In the form of their sum, so that it is compiled alike, two numbers at a time.
-fn join_days(log: &[u64], n: usize) -> Units
-    requires { (n ≤ 123) × (length log.now ≡ 1599) }
+// Kept: a loop beside `tally`, since one for both would ask of each step the room that only a sum needs.
+#[tactic(auto, using(crate::proofs::Bits::joined_none, crate::proofs::Bits::joined_next))]
+fn join_days(log: &Log, n: usize) -> Units
+    requires { n ≤ 123 }
     ensures { result ≡ bits_over n (days_of log.now) }
 {
-    let mut bits = Units {
-        kb: 0,
-        outgoing: 0,
-        incoming: 0,
-        sms: 0,
-    };
-    let mut i: usize = 0;
-    while i < n {
+    let mut bits = Units::default();
+    for i in 0..n {
         bits = join_day(bits, day_at(log, i));
-        i += 1;
     }
     bits
 }
 
 // Are the units of today and of the n logged days within the lifetime units, the other places blank, and all marks
 // proper? A number of 2^40 or more is above any lifetime units; without one the units add up.
-pub fn log_fits(log: &[u64], today: Day, n: u64, lifetime: Units) -> bool
-    requires { (n ≤ 123) × AtMost lifetime lifetime_most × (length log.now ≡ 1599) }
+pub fn log_fits(log: &Log, today: Day, n: u64, lifetime: Units) -> bool
+    requires { (n ≤ 123) × AtMost lifetime lifetime_most }
     ensures { result ≡ log_within log.now today n lifetime }
 {
     let k = n as usize;
-    let end = 13 * k;
-    let rest = bits_between(log, end, 1599);
+    let rest = bits_between(log, 13 * k, 1599);
     if rest != 0 {
         return false;
     }

@@ -1,36 +1,29 @@
 // The sums over the last days, and prevalence (service-2 to service-6, off-1 to off-4).
-ghost use Rattle.std.specs.Prelude.{◌≡◌, map, ◌+◌, ◌≤◌, ◌<◌, min, ltb, length};
-ghost use Rattle.presence.specs.Day.{day_units, zone_day, on_day};
+ghost use Rattle.std.specs.Prelude.{◌≡◌, ◌*◌, ◌≤◌, ◌<◌, ℕ, List, ltb, get_or};
+ghost use Rattle.presence.specs.declared.Day.{Day};
+ghost use Rattle.presence.specs.Day.{empty_day, day_units, zone_day, on_day};
 ghost use Rattle.presence.specs.Window.{zone_units, other_units, sum_days};
 ghost use Rattle.presence.specs.Log.{days_of, units_over};
-ghost use Rattle.presence.specs.Held.{Low, SameMarks, marked_day, column, InColumn, sum_first};
+ghost use Rattle.presence.specs.Held.{Low, SameMarks};
 ghost use Rattle.presence.specs.Held.{prevalent_over, prevalent_where};
 
-use super::{Column, Day, DayKind, Prevalent, Service, days, log};
-use tariff::Units;
+use super::{Day, DayKind, Log, Prevalent, Service, days, log};
 
 // 1 for a zone day, else 0.
+// Kept: this and `on_day` are an expression each, the two counts of `Window::prevalent`.
+#[tactic(auto, unfolding(crate::specs::Day::zone_day))]
 fn zone_day(d: Day) -> u64
     ensures { result ≡ zone_day d }
 {
-    let k = days::day_kind(d);
-    match k {
-        DayKind::HomeDay => 0,
-        DayKind::ZoneDay => 1,
-        DayKind::OffDay => 0,
-    }
+    u64::from(days::day_kind(d) == DayKind::ZoneDay)
 }
 
 // 1 for a day that is not off, else 0.
+#[tactic(auto, unfolding(crate::specs::Day::on_day))]
 fn on_day(d: Day) -> u64
     ensures { result ≡ on_day d }
 {
-    let k = days::day_kind(d);
-    match k {
-        DayKind::HomeDay => 1,
-        DayKind::ZoneDay => 1,
-        DayKind::OffDay => 0,
-    }
+    u64::from(days::day_kind(d) != DayKind::OffDay)
 }
 
 // A day's zone units of a service.
@@ -38,11 +31,10 @@ fn zone_of(d: Day, s: Service) -> u64
     requires { Low (day_units d) }
     ensures { result ≡ zone_units s d }
 {
-    let z = d.inzone;
     match s {
-        Service::DataService => z.kb,
-        Service::CallService => z.outgoing + z.incoming,
-        Service::SmsService => z.sms,
+        Service::DataService => d.inzone.kb,
+        Service::CallService => d.inzone.outgoing + d.inzone.incoming,
+        Service::SmsService => d.inzone.sms,
     }
 }
 
@@ -51,183 +43,109 @@ fn other_of(d: Day, s: Service) -> u64
     requires { Low (day_units d) }
     ensures { result ≡ other_units s d }
 {
-    let h = d.athome;
-    let e = d.outside;
     match s {
-        Service::DataService => h.kb + e.kb,
-        Service::CallService => h.outgoing + e.outgoing + e.incoming,
-        Service::SmsService => h.sms + e.sms,
+        Service::DataService => d.athome.kb + d.outside.kb,
+        Service::CallService => d.athome.outgoing + d.outside.outgoing + d.outside.incoming,
+        Service::SmsService => d.athome.sms + d.outside.sms,
     }
 }
 
-// The marks of the last w days, as the log keeps them.
-fn last_marks(log: &[u64], w: usize) -> [u64; 123]
-    requires { (w ≤ 123) × (length log.now ≡ 1599) }
-    ensures { SameMarks w log.now result }
-{
-    let mut marks = [0u64; 123];
-    let mut i: usize = 0;
-    while i < w {
-        marks[i] = log[13 * i];
-        i += 1;
-    }
-    marks
-}
-
-// A day with these marks and no units.
-fn marked_day(m: u64) -> Day
-    ensures { result ≡ marked_day m }
-{
-    let none = Units {
-        kb: 0,
-        outgoing: 0,
-        incoming: 0,
-        sms: 0,
-    };
-    Day {
-        home: m % 2 == 1,
-        zone: (m / 2) % 2 == 1,
-        elsewhere: (m / 4) % 2 == 1,
-        athome: none,
-        inzone: none,
-        outside: none,
-    }
-}
-
-// The zone days among the last w days, from their marks: those among one day less, and the day before them, which is
-// read first. The marks are an array, so that the compiler makes a loop of this; of a recursion over a slice it does
-// not.
-fn zone_days(marks: &[u64; 123], w: usize) -> u64
-    requires { w ≤ 123 }
-    ensures { result ≡ sum_days zone_day w (map marked_day marks.now) }
+// The sum, over the first w numbers, of what each adds: that over one number less, and what the one before them adds,
+// which is read first.
+// Kept: the array and w, since the sum over the last w days is a recursion that falls on w (form-5).
+fn sum_last<F: Fn(u64) -> u64>(xs: &[u64; 123], w: usize, adds: &F) -> u64
+    requires callable { F.IsAlwaysCallable adds.now }
+    requires few { w ≤ 123 }
+    requires small { (k r : ℕ) → k < w → F.post adds.now (get_or xs.now k 0) r → r ≤ 5000000000000 }
+    ensures sum { (f : Day → ℕ) (ds : List Day)
+        → ((k r : ℕ) → k < w → F.post adds.now (get_or xs.now k 0) r → r ≡ f (get_or ds k empty_day))
+        → result ≡ sum_days f w ds }
+    ensures size { result ≤ 5000000000000 * w }
 {
     if w == 0 {
         return 0;
     }
     let last = w - 1;
-    let x = zone_day(marked_day(marks[last]));
-    x + zone_days(marks, last)
+    let x = adds(xs[last]);
+    x + sum_last(xs, last, adds)
 }
 
-// The days that are not off, among the last w days.
-fn on_days(marks: &[u64; 123], w: usize) -> u64
-    requires { w ≤ 123 }
-    ensures { result ≡ sum_days on_day w (map marked_day marks.now) }
-{
-    if w == 0 {
-        return 0;
+// The last days of a log, which sums are taken over.
+#[derive(Clone, Copy)]
+struct Window<'a> {
+    log: &'a Log,
+    days: usize,
+    ghost few: { days ≤ 123 },
+    ghost low: { Low (units_over days (days_of log.now)) },
+}
+
+impl Window<'_> {
+    // The marks of its days, as the log keeps them.
+    fn marks(self) -> [u64; 123]
+        ensures { SameMarks self.entry.days self.entry.log.now result }
+    {
+        let mut marks = [0; 123];
+        for i in 0..self.days {
+            marks[i] = self.log[13 * i];
+        }
+        marks
     }
-    let last = w - 1;
-    let x = on_day(marked_day(marks[last]));
-    x + on_days(marks, last)
-}
 
-// What a day adds to a sum of units.
-fn column_of(d: Day, c: Column) -> u64
-    requires { Low (day_units d) }
-    ensures { result ≡ column c d }
-{
-    match c {
-        Column::ZoneUnits(s) => zone_of(d, s),
-        Column::OtherUnits(s) => other_of(d, s),
+    // The sum of what each of its days adds. The array is for the numbers that are added.
+    fn units_sum<F: Fn(Day) -> u64>(self, xs: &mut [u64; 123], adds: &F) -> u64
+        requires callable { (i : ℕ) → i < self.days → F.pre adds.now (get_or (days_of self.log.now) i empty_day) }
+        requires small { (i r : ℕ) → i < self.days → F.post adds.now (get_or (days_of self.log.now) i empty_day) r
+            → r ≤ 5000000000000 }
+        ensures { (f : Day → ℕ)
+            → ((i r : ℕ) → i < self.entry.days → F.post adds.now (get_or (days_of self.entry.log.now) i empty_day) r
+            → r ≡ f (get_or (days_of self.entry.log.now) i empty_day))
+            → result ≡ sum_days f self.entry.days (days_of self.entry.log.now) }
+    {
+        for i in 0..self.days {
+            xs[i] = adds(log::day_at(self.log, i));
+        }
+        sum_last(xs, self.days, &|x| x)
     }
-}
 
-// What each of the last w days adds, newest first, into the first w places.
-fn fill(xs: &mut [u64; 123], log: &[u64], c: Column, w: usize)
-    requires { (w ≤ 123) × Low (units_over w (days_of log.now)) × (length log.now ≡ 1599)
-        × (length xs.old ≡ 123) }
-    ensures { InColumn c w (days_of log.now) xs.new }
-{
-    let mut i: usize = 0;
-    while i < w {
-        xs[i] = column_of(log::day_at(log, i), c);
-        i += 1;
+    // Do the zone units of a service exceed its other units? The array is for the numbers that are added.
+    fn zone_exceeds(self, xs: &mut [u64; 123], v: Service) -> bool
+        ensures { result ≡ ltb (sum_days (other_units v) self.entry.days (days_of self.entry.log.now))
+            (sum_days (zone_units v) self.entry.days (days_of self.entry.log.now)) }
+    {
+        let zone = self.units_sum(xs, &|d| zone_of(d, v));
+        let other = self.units_sum(xs, &|d| other_of(d, v));
+        other < zone
     }
-}
 
-// The sum over the last w days: that over one day less, and what the day before them adds, which is read first.
-fn sum_last(xs: &[u64; 123], w: usize) -> u64
-    requires { (w ≤ 123) × (sum_first w xs.now ≤ 5000000000000) }
-    ensures { result ≡ sum_first w xs.now }
-{
-    if w == 0 {
-        return 0;
+    // Which services are prevalent over its days? Off days are in neither count of days. Where zone days are too few
+    // none is, and no units are summed.
+    fn prevalent(self) -> Prevalent
+        ensures { result ≡ prevalent_over self.entry.days (days_of self.entry.log.now) }
+    {
+        let mut xs = self.marks();
+        let zone = sum_last(&xs, self.days, &|m| zone_day(log::marked_day(m)));
+        let on = sum_last(&xs, self.days, &|m| on_day(log::marked_day(m)));
+        if 2 * zone <= on {
+            return Prevalent::default();
+        }
+        Prevalent {
+            internet: self.zone_exceeds(&mut xs, Service::DataService),
+            calls: self.zone_exceeds(&mut xs, Service::CallService),
+            messages: self.zone_exceeds(&mut xs, Service::SmsService),
+        }
     }
-    let last = w - 1;
-    let x = xs[last];
-    x + sum_last(xs, last)
-}
-
-// The sum of a service's units over the last w days. The array is for the numbers that are added.
-fn units_sum(xs: &mut [u64; 123], log: &[u64], c: Column, w: usize) -> u64
-    requires { (w ≤ 123) × Low (units_over w (days_of log.now)) × (length log.now ≡ 1599)
-        × (length xs.old ≡ 123) }
-    ensures sum { result ≡ sum_days (column c) w (days_of log.now) }
-    ensures size { length xs.new ≡ 123 }
-{
-    fill(xs, log, c, w);
-    sum_last(xs, w)
-}
-
-// Do the zone units of a service exceed its other units? The array is for the numbers that are added.
-fn zone_exceeds(xs: &mut [u64; 123], log: &[u64], v: Service, w: usize) -> bool
-    requires { (w ≤ 123) × Low (units_over w (days_of log.now)) × (length log.now ≡ 1599)
-        × (length xs.old ≡ 123) }
-    ensures exceeds { result ≡ ltb (sum_days (other_units v) w (days_of log.now))
-        (sum_days (zone_units v) w (days_of log.now)) }
-    ensures size { length xs.new ≡ 123 }
-{
-    let zone = units_sum(xs, log, Column::ZoneUnits(v), w);
-    let other = units_sum(xs, log, Column::OtherUnits(v), w);
-    other < zone
-}
-
-// Which services are prevalent over the last w days? Off days are in neither count of days. Where zone days are too few
-// none is, and no units are summed.
-fn prevalent_over(log: &[u64], w: usize) -> Prevalent
-    requires { (w ≤ 123) × Low (units_over w (days_of log.now)) × (length log.now ≡ 1599) }
-    ensures { result ≡ prevalent_over w (days_of log.now) }
-{
-    let mut xs = last_marks(log, w);
-    let zone = zone_days(&xs, w);
-    let on = on_days(&xs, w);
-    if 2 * zone <= on {
-        return Prevalent {
-            internet: false,
-            calls: false,
-            messages: false,
-        };
-    }
-    let internet = zone_exceeds(&mut xs, log, Service::DataService, w);
-    let calls = zone_exceeds(&mut xs, log, Service::CallService, w);
-    let messages = zone_exceeds(&mut xs, log, Service::SmsService, w);
-    Prevalent {
-        internet: internet,
-        calls: calls,
-        messages: messages,
-    }
-}
-
-fn lesser(m: usize, n: usize) -> usize
-    ensures { result ≡ min m n }
-{
-    if m < n { m } else { n }
 }
 
 // Which services are prevalent over the last w days, or over the n logged days where these are fewer? Where this is not
 // asked the log is not read, and the answer is none.
-pub fn prevalent_where(asked: bool, log: &[u64], w: usize, n: usize) -> Prevalent
-    requires { (n ≤ 123) × Low (units_over n (days_of log.now)) × (length log.now ≡ 1599) }
+// Kept: the flag, as the promise is stated for both of its values.
+pub fn prevalent_where(asked: bool, log: &Log, w: usize, n: usize) -> Prevalent
+    requires { (n ≤ 123) × Low (units_over n (days_of log.now)) }
     ensures { result ≡ prevalent_where asked w n (days_of log.now) }
 {
-    if asked {
-        let few = lesser(w, n);
-        return prevalent_over(log, few);
+    if !asked {
+        return Prevalent::default();
     }
-    Prevalent {
-        internet: false,
-        calls: false,
-        messages: false,
-    }
+    let days = w.min(n);
+    Window { log, days }.prevalent()
 }

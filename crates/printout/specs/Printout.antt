@@ -1,13 +1,11 @@
 -- The text that the program `statement` prints (statement-1 to statement-3). Choices (docs/DECISIONS.md, "Statement"):
 -- lines; figures; L none. Assumes nothing.
-use Rattle.std.specs.Prelude.{ℕ, List, ◌++◌}
+use Rattle.std.specs.Prelude.{ℕ, List, ◌++◌, Option, Some, None, Result, Ok, Err}
 use Prim.Native.String.{String}
 use Rattle.text.specs.Text.{ascii, decimal}
-use Rattle.tariff.specs.declared.Allowance.{Allowance}
-use Rattle.tariff.specs.declared.Allowance.TheVariants.{NoLimit, Kilobytes}
+use Rattle.tariff.specs.declared.Refusal.{Refusal}
+use Rattle.tariff.specs.Refusal.{refusal_number}
 use Rattle.report.specs.declared.Figures.{Figures}
-use Rattle.report.specs.declared.Report.{Report}
-use Rattle.report.specs.declared.Report.TheVariants.{Lines, Refused}
 use Rattle.report.specs.Statement.{report_of}
 
 -- aid to `line`: what stands before a figure, the figure, and a line feed
@@ -19,12 +17,12 @@ abbrev pub line : String → List ℕ → List ℕ
 line name figure = ended (ascii name ++ ascii " ") figure
 
 -- statement-1: L, or the word none
-abbrev pub limit_text : Allowance → List ℕ
-limit_text NoLimit = ascii "none"
-limit_text (Kilobytes n) = decimal n
+abbrev pub limit_text : Option ℕ → List ℕ
+limit_text None = ascii "none"
+limit_text (Some n) = decimal n
 
 -- statement-1: its line
-unfoldable pub limit_line : Allowance → List ℕ
+unfoldable pub limit_line : Option ℕ → List ℕ
 limit_line l = line "limit" (limit_text l)
 
 -- statement-1: the first five lines
@@ -45,9 +43,9 @@ data_lines f =
     ++ line "refused" (decimal f.refused)
 
 -- statement-1, statement-2: the nine lines, or the one of a bad file
-unfoldable pub text_of : Report → List ℕ
-text_of (Lines f) = money_lines f ++ data_lines f
-text_of (Refused n) = line "file" (decimal n)
+unfoldable pub text_of : Result Figures Refusal → List ℕ
+text_of (Ok f) = money_lines f ++ data_lines f
+text_of (Err r) = line "file" (decimal (refusal_number r))
 
 -- statement-1, statement-3: what is printed of a file's bytes
 abbrev pub statement_text : List ℕ → List ℕ

@@ -5,11 +5,12 @@ ghost use Rattle.std.specs.Prelude.{◌≡◌, ◌+◌, ◌≤◌, length};
 ghost use Rattle.text.specs.Text.{placed, decimal};
 ghost use Rattle.printout.specs.Printout.{ended, limit_line, money_lines, data_lines, text_of, statement_text};
 
-use report::{Figures, Report};
-use tariff::Allowance;
+use report::Figures;
+use tariff::{Allowance, Refusal};
 
 // Puts a name with its space, a figure and a line feed into the buffer from place `at` on, and answers the place after
 // them.
+#[tactic(auto, using(text::proofs::Decimals::u64_digits))]
 fn put_line(name: &[u8], n: u64, at: usize, buf: &mut [u8]) -> usize
     requires { at + length name.now + 21 ≤ length buf.old }
     ensures end { result ≡ at + length (ended name.now (decimal n)) }
@@ -22,6 +23,7 @@ fn put_line(name: &[u8], n: u64, at: usize, buf: &mut [u8]) -> usize
 }
 
 // The same for the limit, which may be none.
+#[tactic(auto, unfolding(crate::specs::Printout::limit_line))]
 fn put_limit(l: Allowance, at: usize, buf: &mut [u8]) -> usize
     requires { at + 27 ≤ length buf.old }
     ensures end { result ≡ at + length (limit_line l) }
@@ -29,12 +31,13 @@ fn put_limit(l: Allowance, at: usize, buf: &mut [u8]) -> usize
     ensures buffer { buf.new ≡ placed buf.old at (limit_line l) }
 {
     match l {
-        Allowance::NoLimit => text::put_bytes(b"limit none\n", at, buf),
-        Allowance::Kilobytes(n) => put_line(b"limit ", n, at, buf),
+        None => text::put_bytes(b"limit none\n", at, buf),
+        Some(n) => put_line(b"limit ", n, at, buf),
     }
 }
 
 // Puts the lines of day, payments and charges at the start of the buffer.
+#[tactic(auto, unfolding(crate::specs::Printout::money_lines))]
 fn put_money(f: Figures, buf: &mut [u8]) -> usize
     requires { 132 ≤ length buf.old }
     ensures end { result ≡ length (money_lines f) }
@@ -49,14 +52,14 @@ fn put_money(f: Figures, buf: &mut [u8]) -> usize
 }
 
 // Puts the lines of zone data and refused calls into the buffer from place `at` on.
+#[tactic(auto, unfolding(crate::specs::Printout::data_lines))]
 fn put_data(f: Figures, at: usize, buf: &mut [u8]) -> usize
     requires { at + 110 ≤ length buf.old }
     ensures end { result ≡ at + length (data_lines f) }
     ensures room { result ≤ at + 110 }
     ensures buffer { buf.new ≡ placed buf.old at (data_lines f) }
 {
-    let limit = f.limit;
-    let mut next = put_limit(limit, at, buf);
+    let mut next = put_limit(f.limit, at, buf);
     next = put_line(b"roamed ", f.roamed, next, buf);
     next = put_line(b"past ", f.past, next, buf);
     put_line(b"refused ", f.refused as u64, next, buf)
@@ -64,17 +67,18 @@ fn put_data(f: Figures, at: usize, buf: &mut [u8]) -> usize
 
 // Puts the text of a report at the start of the buffer, and answers its length. The nine names with their spaces have
 // 53 bytes, a figure has 20 digits at most, and each line ends in a line feed: no text is longer than 242 bytes.
-pub fn put_report(r: Report, buf: &mut [u8; 242]) -> usize
+#[tactic(auto, unfolding(crate::specs::Printout::text_of))]
+pub fn put_report(r: Result<Figures, Refusal>, buf: &mut [u8; 242]) -> usize
     ensures end { result ≡ length (text_of r) }
     ensures room { result ≤ length buf.new }
     ensures buffer { buf.new ≡ placed buf.old 0 (text_of r) }
 {
     match r {
-        Report::Lines(f) => {
+        Ok(f) => {
             let at = put_money(f, buf);
             put_data(f, at, buf)
         }
-        Report::Refused(n) => put_line(b"file ", n, 0, buf),
+        Err(refusal) => put_line(b"file ", u64::from(refusal), 0, buf),
     }
 }
 
@@ -84,6 +88,5 @@ pub fn put_statement(file: &[u8], buf: &mut [u8; 242]) -> usize
     ensures room { result ≤ length buf.new }
     ensures buffer { buf.new ≡ placed buf.old 0 (statement_text file.now) }
 {
-    let r = report::statement_of(file);
-    put_report(r, buf)
+    put_report(report::statement_of(file), buf)
 }

@@ -13,15 +13,11 @@ use Rattle.tariff.specs.declared.Form.{Form}
 use Rattle.tariff.specs.declared.Form.TheVariants.{Prepaid, Bundle, Unlimited}
 use Rattle.tariff.specs.declared.Place.TheVariants.{Home, Zone, Elsewhere}
 use Rattle.tariff.specs.declared.Plan.{Plan}
-use Rattle.tariff.specs.declared.Allowance.{Allowance}
-use Rattle.tariff.specs.declared.Allowance.TheVariants.{NoLimit, Kilobytes}
 use Rattle.tariff.specs.Units.{zero_units, ◌⊕◌, ◌⊗◌, only, of_kind}
 use Rattle.tariff.specs.Caps.{built_in, caps_on}
 use Rattle.tariff.specs.Charges.{after_first, billed_kb, after_allowance, home_charges_of, surcharges_of}
 use Rattle.tariff.proofs.Tests.{and_left, and_right, and_both}
 use Rattle.tariff.proofs.Tables.{caps_bound}
-use Rattle.presence.specs.declared.Location.{Location}
-use Rattle.presence.specs.declared.Location.TheVariants.{Nowhere, At}
 use Rattle.presence.specs.declared.ServiceState.{ServiceState}
 use Rattle.presence.specs.declared.ServiceState.TheVariants.{Clear, Warned, Surcharged}
 use Rattle.presence.specs.declared.Services.{Services}
@@ -36,6 +32,8 @@ use Rattle.quotes.specs.Quotes.{points, price_of, least_charged, seconds_left, f
 use Rattle.state.proofs.Adding.{Worked, home_grows, extra_grows}
 use Rattle.state.proofs.Soundness.{Counters, counters_tell, charges_tell, plan_of_state}
 use Rattle.state.proofs.Verdicts.{kind_most}
+use Rattle.std.specs.Prelude.{Option, Some, None}
+use Rattle.tariff.specs.declared.Place.{Place}
 
 -- points are no more than what they are rounded from
 pub points_most : (k : Kind) (x : ℕ) → points k x ≤ x
@@ -156,22 +154,22 @@ no_units_billed : (p : Plan) (h : ℕ) (k : Kind) (c : ℕ) → c ≤ 1000000000
 unfolding billed_of
 no_units_billed p h k c l = rw (none_billed p.form p.volume h) (nothing k c l)
 
-pub billed_here : (w : Location) (p : Plan) (h : ℕ) (k : Kind) (c : ℕ) → c ≤ 1000000000 → billed_of p h (billable w (only k c)) ≡ only k (c - cond (bears w) (free_of p h k) 1000000000)
+pub billed_here : (w : Option Place) (p : Plan) (h : ℕ) (k : Kind) (c : ℕ) → c ≤ 1000000000 → billed_of p h (billable w (only k c)) ≡ only k (c - cond (bears w) (free_of p h k) 1000000000)
 unfolding billable
-billed_here Nowhere p h k c l = no_units_billed p h k c l
-billed_here (At Home) p h k c l = kind_billed p h k c l
-billed_here (At Zone) p h k c l = kind_billed p h k c l
-billed_here (At Elsewhere) p h k c l = no_units_billed p h k c l
+billed_here None p h k c l = no_units_billed p h k c l
+billed_here (Some Home) p h k c l = kind_billed p h k c l
+billed_here (Some Zone) p h k c l = kind_billed p h k c l
+billed_here (Some Elsewhere) p h k c l = no_units_billed p h k c l
 
-none_past : (l : Allowance) (r : ℕ) → after_allowance l r 0 ≡ 0
+none_past : (l : Option ℕ) (r : ℕ) → after_allowance l r 0 ≡ 0
 unfolding after_allowance
-none_past NoLimit r = refl
-none_past (Kilobytes m) r = none_after m r
+none_past None r = refl
+none_past (Some m) r = none_after m r
 
-some_past : (l : Allowance) (r c : ℕ) → c ≤ 1000000000 → after_allowance l r c ≡ c - left_of l r
+some_past : (l : Option ℕ) (r c : ℕ) → c ≤ 1000000000 → after_allowance l r c ≡ c - left_of l r
 unfolding after_allowance
-some_past NoLimit r c h = omega arith
-some_past (Kilobytes m) r c h = some_after m r c
+some_past None r c h = omega arith
+some_past (Some m) r c h = some_after m r c
 
 no_part : (s : ServiceState) → surcharged_of s 0 0 ≡ 0
 unfolding surcharged_of
@@ -185,24 +183,24 @@ some_part Clear past inside c e = e
 some_part (Warned k) past inside c e = e
 some_part Surcharged past inside c e = omega arith
 
-kind_surcharged : (s : Services) (l : Allowance) (r : ℕ) (k : Kind) (c : ℕ) → c ≤ 1000000000 → surcharged_units s l r (only k c) ≡ only k (c - inside_of s l r k)
+kind_surcharged : (s : Services) (l : Option ℕ) (r : ℕ) (k : Kind) (c : ℕ) → c ≤ 1000000000 → surcharged_units s l r (only k c) ≡ only k (c - inside_of s l r k)
 unfolding surcharged_units
 kind_surcharged s l r Data c h = rw (some_part s.internet (after_allowance l r c) (left_of l r) c (some_past l r c h), no_part s.calls, no_part s.messages) refl
 kind_surcharged s l r Outgoing c h = rw (none_past l r, no_part s.internet, some_part s.calls 0 1000000000 c (omega arith), no_part s.calls, no_part s.messages) refl
 kind_surcharged s l r Incoming c h = rw (none_past l r, no_part s.internet, some_part s.calls 0 1000000000 c (omega arith), no_part s.calls, no_part s.messages) refl
 kind_surcharged s l r Sms c h = rw (none_past l r, no_part s.internet, no_part s.calls, some_part s.messages 0 1000000000 c (omega arith)) refl
 
-no_units_surcharged : (s : Services) (l : Allowance) (r : ℕ) → surcharged_units s l r zero_units ≡ zero_units
+no_units_surcharged : (s : Services) (l : Option ℕ) (r : ℕ) → surcharged_units s l r zero_units ≡ zero_units
 unfolding surcharged_units
 no_units_surcharged s l r = rw (none_past l r, no_part s.internet, no_part s.calls, no_part s.messages) refl
 
-pub surcharged_here : (w : Location) (s : Services) (l : Allowance) (r : ℕ) (k : Kind) (c : ℕ) → c ≤ 1000000000
+pub surcharged_here : (w : Option Place) (s : Services) (l : Option ℕ) (r : ℕ) (k : Kind) (c : ℕ) → c ≤ 1000000000
     → surcharged_units s l r (roaming w (only k c)) ≡ only k (c - cond (in_zone w) (inside_of s l r k) 1000000000)
 unfolding roaming
-surcharged_here Nowhere s l r k c h = no_units_surcharged s l r ∙ nothing k c h
-surcharged_here (At Home) s l r k c h = no_units_surcharged s l r ∙ nothing k c h
-surcharged_here (At Zone) s l r k c h = kind_surcharged s l r k c h
-surcharged_here (At Elsewhere) s l r k c h = no_units_surcharged s l r ∙ nothing k c h
+surcharged_here None s l r k c h = no_units_surcharged s l r ∙ nothing k c h
+surcharged_here (Some Home) s l r k c h = no_units_surcharged s l r ∙ nothing k c h
+surcharged_here (Some Zone) s l r k c h = kind_surcharged s l r k c h
+surcharged_here (Some Elsewhere) s l r k c h = no_units_surcharged s l r ∙ nothing k c h
 
 -- so home charges and surcharges grow by what the kind's own do
 home_one : (p : Plan) (u : Units) (k : Kind) (x : ℕ)
@@ -247,7 +245,7 @@ none_quoted a k = simp (none_less, mul-zero, add-zero)
     none_less x = omega arith
 
 -- what a record is charged as
-charged_least : (w : Location) (k : Kind) (n : ℕ) → charged_as w k n ≡ max n (least_charged w k)
+charged_least : (w : Option Place) (k : Kind) (n : ℕ) → charged_as w k n ≡ max n (least_charged w k)
 unfolding charged_as
 charged_least w Data n = omega arith
 charged_least w Outgoing n = go (in_zone w)

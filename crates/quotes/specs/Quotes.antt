@@ -1,16 +1,13 @@
 -- Aids to Afford (afford-1): what a use of one kind costs, from that kind's own figures. That this is the cost by the
 -- rules of Use is `OneKindsCost`. Choice (docs/DECISIONS.md, "Afford"): how it is found. Assumes nothing.
-use Rattle.std.specs.Prelude.{ℕ, ◌+◌, ◌-◌, ◌*◌, ◌/◌, ◌≤◌, max, Bool, cond, ◌&&◌, leb}
+use Rattle.std.specs.Prelude.{ℕ, ◌+◌, ◌-◌, ◌*◌, ◌/◌, ◌≤◌, max, Bool, cond, ◌&&◌, leb, Option, Some, None}
 use Rattle.tariff.specs.declared.Kind.{Kind}
 use Rattle.tariff.specs.declared.Kind.TheVariants.{Data, Outgoing, Incoming, Sms}
 use Rattle.tariff.specs.declared.Form.{Form}
 use Rattle.tariff.specs.declared.Form.TheVariants.{Prepaid, Bundle, Unlimited}
 use Rattle.tariff.specs.declared.Plan.{Plan}
-use Rattle.tariff.specs.declared.Allowance.{Allowance}
-use Rattle.tariff.specs.declared.Allowance.TheVariants.{NoLimit, Kilobytes}
 use Rattle.tariff.specs.Units.{of_kind}
 use Rattle.tariff.specs.Caps.{built_in, caps_on}
-use Rattle.presence.specs.declared.Location.{Location}
 use Rattle.presence.specs.declared.ServiceState.{ServiceState}
 use Rattle.presence.specs.declared.ServiceState.TheVariants.{Clear, Warned, Surcharged}
 use Rattle.presence.specs.declared.Services.{Services}
@@ -18,6 +15,7 @@ use Rattle.presence.specs.Day.{in_zone}
 use Rattle.state.specs.declared.State.{State}
 use Rattle.quotes.specs.declared.Quote.{Quote}
 use Rattle.state.specs.Needs.{bears}
+use Rattle.tariff.specs.declared.Place.{Place}
 
 -- aid: the points that a sum of price or cap by units comes to in a kind
 abbrev pub points : Kind → ℕ → ℕ
@@ -34,7 +32,7 @@ price_of p Incoming = 0
 price_of p Sms = p.persms
 
 -- aid: the fewest units that a record is charged for
-abbrev pub least_charged : Location → Kind → ℕ
+abbrev pub least_charged : Option Place → Kind → ℕ
 least_charged w Data = 0
 least_charged w Outgoing = cond (in_zone w) 30 0
 least_charged w Incoming = 0
@@ -62,9 +60,9 @@ free_of p h Incoming = 1000000000
 free_of p h Sms = 0
 
 -- aid: the kB left of the allowance, after r others
-abbrev pub left_of : Allowance → ℕ → ℕ
-left_of NoLimit r = 1000000000
-left_of (Kilobytes l) r = l - r
+abbrev pub left_of : Option ℕ → ℕ → ℕ
+left_of None r = 1000000000
+left_of (Some l) r = l - r
 
 -- aid: the units before the first that bears a surcharge: none where the service is Surcharged
 abbrev pub inside_part : ServiceState → ℕ → ℕ
@@ -73,7 +71,7 @@ inside_part (Warned k) n = n
 inside_part Surcharged n = 0
 
 -- aid: the same of a kind, in the zone
-abbrev pub inside_of : Services → Allowance → ℕ → Kind → ℕ
+abbrev pub inside_of : Services → Option ℕ → ℕ → Kind → ℕ
 inside_of s l r Data = inside_part s.internet (left_of l r)
 inside_of s l r Outgoing = inside_part s.calls 1000000000
 inside_of s l r Incoming = inside_part s.calls 1000000000

@@ -2,6 +2,7 @@
 ghost use Rattle.quotes.specs.Claims.{OneKindsCost};
 
 // What units of one kind cost depends on that kind's figures alone.
+#[tactic(auto, using(crate::proofs::Quoting::one_kinds_cost))]
 pub fn one_kinds_cost()
     ensures { OneKindsCost }
 {}

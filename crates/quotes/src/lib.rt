@@ -3,7 +3,7 @@
 
 pub mod claims;
 
-ghost use Rattle.std.specs.Prelude.{◌≡◌, ◌+◌, ◌-◌, ◌*◌, ◌≤◌, ◌<◌};
+ghost use Rattle.std.specs.Prelude.{◌≡◌, ◌+◌, ◌-◌, ◌*◌, ◌≤◌, ◌<◌, cond};
 ghost use Rattle.state.specs.Needs.{Steady};
 ghost use Rattle.quotes.specs.Quotes.{points, price_of, least_charged, seconds_left, free_kb, free_of, left_of};
 ghost use Rattle.quotes.specs.Quotes.{inside_part, inside_of, spent_so_far, quote_of, within_quote, Quotable};
@@ -36,8 +36,7 @@ fn points_of(k: Kind, x: u64) -> u64
 {
     match k {
         Kind::Data => x / 1048576,
-        Kind::Outgoing => x / 60,
-        Kind::Incoming => x / 60,
+        Kind::Outgoing | Kind::Incoming => x / 60,
         Kind::Sms => x,
     }
 }
@@ -57,24 +56,19 @@ fn price_of(p: Plan, k: Kind) -> u64
 fn least_charged(w: Location, k: Kind) -> u64
     ensures { result ≡ least_charged w k }
 {
-    let zone = presence::days::zone_at(w);
     match k {
-        Kind::Data => 0,
-        Kind::Outgoing => state::choice::pick(zone, 30, 0),
-        Kind::Incoming => 0,
-        Kind::Sms => 0,
+        Kind::Outgoing if presence::days::zone_at(w) => 30,
+        _ => 0,
     }
 }
 
 // The charged units that the meter of charged seconds can take yet.
-fn seconds_left(a: State, k: Kind) -> u64
-    ensures { result ≡ seconds_left a k }
+fn seconds_left(a: &State, k: Kind) -> u64
+    ensures { result ≡ seconds_left a.now k }
 {
     match k {
-        Kind::Data => 1000000000000,
-        Kind::Outgoing => state::choice::less(1000000000000, a.meters.chargedseconds),
-        Kind::Incoming => 1000000000000,
-        Kind::Sms => 1000000000000,
+        Kind::Outgoing => 1000000000000u64.saturating_sub(a.meters.chargedseconds),
+        Kind::Data | Kind::Incoming | Kind::Sms => 1000000000000,
     }
 }
 
@@ -83,7 +77,7 @@ fn free_kb(f: Form, volume: u64, h: u64) -> u64
 {
     match f {
         Form::Prepaid => 0,
-        Form::Bundle => state::choice::less(volume, h),
+        Form::Bundle => volume.saturating_sub(h),
         Form::Unlimited => 1000000000,
     }
 }
@@ -92,12 +86,10 @@ fn free_kb(f: Form, volume: u64, h: u64) -> u64
 fn free_of(p: Plan, h: u64, k: Kind) -> u64
     ensures { result ≡ free_of p h k }
 {
-    let form = p.form;
     match k {
-        Kind::Data => free_kb(form, p.volume, h),
-        Kind::Outgoing => 0,
+        Kind::Data => free_kb(p.form, p.volume, h),
+        Kind::Outgoing | Kind::Sms => 0,
         Kind::Incoming => 1000000000,
-        Kind::Sms => 0,
     }
 }
 
@@ -105,8 +97,8 @@ fn left_of(l: Allowance, r: u64) -> u64
     ensures { result ≡ left_of l r }
 {
     match l {
-        Allowance::NoLimit => 1000000000,
-        Allowance::Kilobytes(m) => state::choice::less(m, r),
+        None => 1000000000,
+        Some(m) => m.saturating_sub(r),
     }
 }
 
@@ -114,8 +106,7 @@ fn inside_part(s: ServiceState, n: u64) -> u64
     ensures { result ≡ inside_part s n }
 {
     match s {
-        ServiceState::Clear => n,
-        ServiceState::Warned(_) => n,
+        ServiceState::Clear | ServiceState::Warned(_) => n,
         ServiceState::Surcharged => 0,
     }
 }
@@ -124,74 +115,60 @@ fn inside_part(s: ServiceState, n: u64) -> u64
 fn inside_of(s: Services, l: Allowance, r: u64, k: Kind) -> u64
     ensures { result ≡ inside_of s l r k }
 {
-    let internet = s.internet;
-    let calls = s.calls;
-    let messages = s.messages;
     match k {
-        Kind::Data => inside_part(internet, left_of(l, r)),
-        Kind::Outgoing => inside_part(calls, 1000000000),
-        Kind::Incoming => inside_part(calls, 1000000000),
-        Kind::Sms => inside_part(messages, 1000000000),
+        Kind::Data => inside_part(s.internet, left_of(l, r)),
+        Kind::Outgoing | Kind::Incoming => inside_part(s.calls, 1000000000),
+        Kind::Sms => inside_part(s.messages, 1000000000),
     }
 }
 
 // What the kind has come to so far.
-fn spent_so_far(a: State, k: Kind) -> u64
-    requires { Steady a }
-    ensures { result ≡ spent_so_far a k }
+fn spent_so_far(a: &State, k: Kind) -> u64
+    requires { Steady a.now }
+    ensures { result ≡ spent_so_far a.now k }
 {
-    let price = price_of(a.plan, k);
-    let billed = tariff::amounts::amount(k, a.meters.billed);
-    let basis = tariff::amounts::amount(k, a.meters.basis);
-    let home = points_of(k, price * billed);
-    let extra = points_of(k, basis);
-    home + extra
+    let priced = price_of(a.plan, k) * tariff::amounts::amount(k, a.meters.billed);
+    points_of(k, priced) + points_of(k, tariff::amounts::amount(k, a.meters.basis))
+}
+
+// Of these units where the place counts for the charge, else as many as a use may have.
+fn where_it_bears(bears: bool, units: u64) -> u64
+    ensures { result ≡ cond bears units 1000000000 }
+{
+    if bears { units } else { 1000000000 }
 }
 
 // A kind's own figures on a sound account.
+#[tactic(auto, unfolding(crate::specs::Quotes::quote_of))]
 pub fn quote_of(a: State, k: Kind) -> Quote
     requires { Steady a }
     ensures { result ≡ quote_of a k }
 {
-    let plan = a.plan;
-    let place = a.place;
-    let quota = a.quota;
-    let allowance = quota.allowance;
-    let services = a.services;
-    let free = free_of(plan, a.quota.monthly, k);
-    let inside = inside_of(services, allowance, a.quota.roamed, k);
-    let lifetime = tariff::amounts::amount(k, a.meters.lifetime);
-    let caps = tariff::caps::caps_of(a.day);
-    let least = least_charged(place, k);
-    let seconds = seconds_left(a, k);
-    let price = price_of(plan, k);
-    let billed = tariff::amounts::amount(k, a.meters.billed);
-    let cap = tariff::amounts::amount(k, caps);
-    let basis = tariff::amounts::amount(k, a.meters.basis);
-    let so_far = spent_so_far(a, k);
+    let free = free_of(a.plan, a.quota.monthly, k);
+    let inside = inside_of(a.services, a.quota.allowance, a.quota.roamed, k);
     Quote {
         kind: k,
-        least: least,
-        room: state::choice::less(1000000000000, lifetime),
-        seconds: seconds,
-        free: state::choice::pick(state::charging::bears_home_price(place), free, 1000000000),
-        price: price,
-        billed: billed,
-        inside: state::choice::pick(presence::days::zone_at(place), inside, 1000000000),
-        cap: cap,
-        basis: basis,
-        funds: a.money.credit + so_far,
+        least: least_charged(a.place, k),
+        room: 1000000000000u64.saturating_sub(tariff::amounts::amount(k, a.meters.lifetime)),
+        seconds: seconds_left(&a, k),
+        free: where_it_bears(state::charging::bears_home_price(a.place), free),
+        price: price_of(a.plan, k),
+        billed: tariff::amounts::amount(k, a.meters.billed),
+        inside: where_it_bears(presence::days::zone_at(a.place), inside),
+        cap: tariff::amounts::amount(k, tariff::caps::caps_of(a.day)),
+        basis: tariff::amounts::amount(k, a.meters.basis),
+        funds: a.money.credit + spent_so_far(&a, k),
     }
 }
 
 // Are n units within the meters and the funds?
+#[tactic(auto, unfolding(crate::specs::Quotes::within_quote, crate::specs::Quotes::quoted))]
 pub fn within_quote(q: Quote, n: u64) -> bool
     requires { Quotable q × (n ≤ 1000000000) }
     ensures { result ≡ within_quote q n }
 {
-    let kind = q.kind;
-    let c = state::choice::greater(n, q.least);
-    let home = points_of(kind, q.price * (q.billed + state::choice::less(c, q.free)));
-    let extra = points_of(kind, q.basis + q.cap * state::choice::less(c, q.inside));
+    let c = n.max(q.least);
+    let home = points_of(q.kind, q.price * (q.billed + c.saturating_sub(q.free)));
+    let extra = points_of(q.kind, q.basis + q.cap * c.saturating_sub(q.inside));
     (n <= q.room) & (c <= q.seconds) & (home + extra <= q.funds)
 }

@@ -8,7 +8,7 @@ use lib.Seq.{get_or-drop}
 use borrow.Author.Tests.{le-leb, lt-leb}
 use Rattle.words.specs.Words.{word}
 use Rattle.reader.specs.Calls.{decoded, position_after}
-use Rattle.reader.specs.declared.Step.TheVariants.{Call, End}
+use Rattle.std.proofs.Common.{Some, None}
 
 word_from : (s : List ℕ) (m i : ℕ) → word (drop (4 * m) s) i ≡ word s (m + i)
 word_from s m i =
@@ -20,7 +20,7 @@ word_from s m i =
     rw (get_or-drop d s (4 * i) 0, get_or-drop d s (4 * i + 1) 0, get_or-drop d s (4 * i + 2) 0, get_or-drop d s (4 * i + 3) 0, e₀, e₁, e₂, e₃)
 
 -- call i of a section has the words 2 i and 2 i + 1
-pub decoded_call : (s : List ℕ) (i : ℕ) → 8 * i + 8 ≤ length s → decoded s (8 * i) ≡ Call (word s (2 * i)) (word s (2 * i + 1))
+pub decoded_call : (s : List ℕ) (i : ℕ) → 8 * i + 8 ≤ length s → decoded s (8 * i) ≡ Some (record { code = word s (2 * i); number = word s (2 * i + 1) })
 decoded_call s i h =
     let e : 8 * i ≡ 4 * (2 * i) = omega arith in
     let z : 2 * i + 0 ≡ 2 * i = omega arith in
@@ -28,7 +28,7 @@ decoded_call s i h =
     let w₁ : word (drop (4 * (2 * i)) s) 1 ≡ word s (2 * i + 1) = word_from s (2 * i) 1 in
     rw (le-leb (8 * i + 8) (length s) h, e, w₀, w₁, z)
 
-pub decoded_end : (s : List ℕ) (at : ℕ) → length s < at + 8 → decoded s at ≡ End
+pub decoded_end : (s : List ℕ) (at : ℕ) → length s < at + 8 → decoded s at ≡ None
 decoded_end s at h = rw (lt-leb (at + 8) (length s) h)
 
 pub after_call : (s : List ℕ) (at : ℕ) → at + 8 ≤ length s → position_after s at ≡ at + 8

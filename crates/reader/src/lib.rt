@@ -1,7 +1,8 @@
 // A reader over a calls section, thin over `decode` (reader-1, reader-2, form-7).
 #![tactic(auto)]
 
-ghost use Rattle.std.specs.Prelude.{◌≡◌};
+ghost use Rattle.std.specs.Prelude.{◌≡◌, ◌-◌, ◌/◌, length};
+ghost use Rattle.std.specs.Iterator.{at_most};
 ghost use Rattle.reader.specs.Calls.{decoded, position_after};
 ghost use Rattle.reader.specs.Handed.{HandsOutCalls};
 
@@ -12,67 +13,64 @@ pub struct Reader<'a> {
     pub at: usize,
 }
 
-// A call as it stands in the section, unchecked; or none.
-#[derive(Clone, Copy)]
-pub enum Step {
-    Call { code: u32, number: u32 },
-    End,
+// A call as it stands in the section, unchecked.
+#[derive(Clone, Copy, PartialEq, Eq)]
+pub struct CodedCall {
+    pub code: u32,
+    pub number: u32,
 }
 
 // The 8 bytes at a position as code and number, or none where fewer remain.
-pub fn decode(s: &[u8], at: usize) -> Step
+pub fn decode(s: &[u8], at: usize) -> Option<CodedCall>
     ensures { result ≡ decoded s.now at }
 {
-    if at > s.len() {
-        return Step::End;
+    let rest = s.get(at..)?;
+    if rest.len() < 8 {
+        return None;
     }
-    if s.len() - at < 8 {
-        return Step::End;
-    }
-    let rest = &s[at..];
     let code = words::word_at(rest, 0);
     let number = words::word_at(rest, 1);
-    Step::Call { code, number }
+    Some(CodedCall { code, number })
 }
 
 // The position after that call, or the same one where fewer than 8 bytes remain.
 pub fn after(s: &[u8], at: usize) -> usize
     ensures { result ≡ position_after s.now at }
 {
-    if at > s.len() {
-        return at;
+    if decode(s, at).is_some() { at + 8 } else { at }
+}
+
+impl Reader<'_> {
+    // A reader at the section's start.
+    pub fn new(section: &[u8]) -> Reader<'_>
+        ensures { (result.section ≡ section.entry) × (result.at ≡ 0) }
+    {
+        Reader { section, at: 0 }
     }
-    if s.len() - at < 8 {
-        return at;
+
+    // The reader's next call; the reader stays.
+    pub fn peek(&self) -> Option<CodedCall>
+        ensures { result ≡ decoded self.now.section.now self.now.at }
+    {
+        decode(self.section, self.at)
     }
-    at + 8
 }
 
-// A reader at the section's start.
-pub fn new<'a>(section: &'a [u8]) -> Reader<'a>
-    ensures { (result.section ≡ section.entry) × (result.at ≡ 0) }
-{
-    Reader { section, at: 0 }
-}
+impl Iterator for Reader<'_> {
+    type Item = CodedCall;
 
-// The reader's next call; the reader stays.
-pub fn peek<'a>(r: Reader<'a>) -> Step
-    ensures { result ≡ decoded r.entry.section.now r.entry.at }
-{
-    decode(r.section, r.at)
-}
+    ghost next_gives = { λ r call moved. (call ≡ decoded r.section.now r.at)
+        × (moved.section ≡ r.section)
+        × (moved.at ≡ position_after r.section.now r.at) };
 
-// The reader's next call, and the reader moved past it; none at the end, where the reader stays.
-pub fn next<'s, 'a>(r: &'s mut Reader<'a>) -> Step
-    ensures { (result ≡ decoded r.old.section.now r.old.at)
-        × (r.new.section ≡ r.old.section)
-        × (r.new.at ≡ position_after r.old.section.now r.old.at) }
-{
-    let section = r.section;
-    let at = r.at;
-    let step = decode(section, at);
-    r.at = after(section, at);
-    step
+    ghost remaining = { λ r. at_most ((length r.section.now - r.at) / 8) };
+
+    // The reader's next call, and the reader moved past it; none at the end, where the reader stays.
+    fn next(&mut self) -> Option<CodedCall> {
+        let call = decode(self.section, self.at)?;
+        self.at += 8;
+        Some(call)
+    }
 }
 
 // Asked again and again from the section's start, a reader hands out the section's calls in order, and then none.

@@ -1,11 +1,11 @@
 -- The reasons of each operation stand in this order, by computation. Assumes nothing.
-use Prim.Native.Nat.{ℕ}
 use mathlib.Core.Path.{◌≡◌, refl}
 use mathlib.Core.Bool.{Bool, true, false, cond, ◌||◌}
 use mathlib.Core.List.{List, [], ◌∷◌}
 use lib.Dec.{eqb}
 use borrow.Author.Tests.{eq-eqb}
-use Rattle.tariff.specs.declared.Verdict.TheVariants.{Refused}
+use Rattle.tariff.specs.declared.Refusal.{Refusal}
+use Rattle.tariff.specs.Refusal.{refusal_number}
 use Rattle.tariff.specs.Tests.{Reason, verdict_of}
 use Rattle.tariff.specs.Plan.{amount_reasons, plan_reasons, terms_reasons}
 use Rattle.state.specs.Reasons.{use_reasons, top_up_reasons, next_day_reasons}
@@ -18,20 +18,23 @@ use Rattle.tripfile.specs.Reading.{body_reasons, read_reasons}
 use Rattle.tripfile.specs.Writing.{calls_reasons, write_reasons}
 use Rattle.textlines.specs.Text.{reading_reasons, export_reasons}
 use Rattle.refusals.specs.Order.{numbers, among, ReasonsInOrder, TextReasonsInOrder}
+use Rattle.std.specs.Prelude.{Err}
 
 or_right : (b : Bool) → (b || true) ≡ true
 or_right true = refl
 or_right false = refl
 
 -- a refusal tells the number of one of the reasons
-only_these : (rs : List Reason) (n : ℕ) → verdict_of rs ≡ Refused n → among n (numbers rs) ≡ true
+only_these : (rs : List Reason) (x : Refusal) → verdict_of rs ≡ Err x → among (refusal_number x) (numbers rs) ≡ true
 unfolding verdict_of numbers among
-only_these [] n h = cc
-only_these (r ∷ rs) n h = go r.holds (λ e. only_these rs n e) h
+only_these [] x h = cc
+only_these (r ∷ rs) x h = go r.holds (λ e. only_these rs x e) h
   where
-    go : (b : Bool) → (verdict_of rs ≡ Refused n → among n (numbers rs) ≡ true) → cond b (Refused r.number) (verdict_of rs) ≡ Refused n → eqb n r.number || among n (numbers rs) ≡ true
-    go true f e = rw (eq-eqb n r.number (cc)) refl
-    go false f e = rw (f e) (or_right (eqb n r.number))
+    go : (b : Bool) → (verdict_of rs ≡ Err x → among (refusal_number x) (numbers rs) ≡ true)
+        → cond b (Err r.refusal) (verdict_of rs) ≡ Err x
+        → eqb (refusal_number x) (refusal_number r.refusal) || among (refusal_number x) (numbers rs) ≡ true
+    go true f e = rw (eq-eqb (refusal_number x) (refusal_number r.refusal) cc) refl
+    go false f e = rw (f e) (or_right (eqb (refusal_number x) (refusal_number r.refusal)))
 
 pub reasons_in_order : ReasonsInOrder
 unfolding numbers amount_reasons plan_reasons terms_reasons use_reasons top_up_reasons next_day_reasons own_reasons reasons file_reasons find_reasons body_reasons read_reasons calls_reasons write_reasons plain before with_allowance box_reasons card_reasons open_reasons

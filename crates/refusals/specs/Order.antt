@@ -1,11 +1,12 @@
 -- The numbers that each operation can answer, in the order of its reasons (order-1, order-3, order-4, family-11 to
 -- family-14, lines-9, lines-10). Choices (docs/DECISIONS.md, "Trip file" and "Family box"): order of 13, 14, 15, 1, 17,
 -- 18, 2; the order of a use's refusals. Assumes nothing.
-use Rattle.std.specs.Prelude.{ℕ, ◌≡◌, Bool, true, false, ◌||◌, List, [], ◌∷◌, eqb}
+use Rattle.std.specs.Prelude.{ℕ, ◌≡◌, Bool, true, false, ◌||◌, List, [], ◌∷◌, eqb, Err}
 use Rattle.tariff.specs.declared.Kind.{Kind}
 use Rattle.tariff.specs.declared.Place.{Place}
 use Rattle.tariff.specs.declared.Plan.{Plan}
-use Rattle.tariff.specs.declared.Verdict.TheVariants.{Refused}
+use Rattle.tariff.specs.declared.Refusal.{Refusal}
+use Rattle.tariff.specs.Refusal.{refusal_number}
 use Rattle.tariff.specs.Tests.{Reason, verdict_of}
 use Rattle.tariff.specs.Plan.{plan_reasons}
 use Rattle.account.specs.declared.Account.{Account}
@@ -23,7 +24,7 @@ use Rattle.textlines.specs.Text.{reading_reasons, export_reasons}
 -- aid: the numbers of reasons, in their order
 unfoldable pub numbers : List Reason → List ℕ
 numbers [] = []
-numbers (r ∷ rs) = r.number ∷ numbers rs
+numbers (r ∷ rs) = refusal_number r.refusal ∷ numbers rs
 
 -- aid: n is one of the numbers
 unfoldable pub among : ℕ → List ℕ → Bool
@@ -50,7 +51,8 @@ pub record ReasonsInOrder : Type 0 where
   pub of_top_up_box : (b : Box) (n : ℕ) → numbers (box_reasons b (OnBox.TopUp n)) ≡ 0 ∷ 19 ∷ 7 ∷ 8 ∷ []
   pub of_next_day_box : (b : Box) → numbers (box_reasons b OnBox.NextDay) ≡ 0 ∷ 19 ∷ 9 ∷ []
   pub of_afford_card : (b : Box) (i : ℕ) (k : Kind) → numbers (box_reasons b (OnBox.Afford i k)) ≡ 0 ∷ 19 ∷ 3 ∷ []
-  pub only_these : (rs : List Reason) (n : ℕ) → verdict_of rs ≡ Refused n → among n (numbers rs) ≡ true
+  pub only_these : (rs : List Reason) (r : Refusal) → verdict_of rs ≡ Err r
+      → among (refusal_number r) (numbers rs) ≡ true
 
 -- order-1, order-4, lines-9, lines-10: the numbers of reading a text of calls, and of exporting one
 pub record TextReasonsInOrder : Type 0 where

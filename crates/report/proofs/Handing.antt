@@ -8,13 +8,13 @@ use Rattle.sections.specs.Find.{section_of}
 use Rattle.tripfile.specs.Bodies as B
 use Rattle.tripfile.specs.Bodies.{call_at, first_calls, calls_in}
 use Rattle.tripfile.proofs.Held.{holds}
-use Rattle.reader.specs.declared.Step.{Step}
-use Rattle.reader.specs.declared.Step.TheVariants.{Call, End}
+use Rattle.std.specs.Prelude.{Option, Some, None}
+use Rattle.reader.specs.declared.CodedCall.{CodedCall}
 use Rattle.reader.specs.Handed.{first_steps}
 use Rattle.reader.proofs.Handing.{hands_out_calls}
 use Rattle.report.specs.Handed.{steps_of, ReaderHandsOutCalls}
 
-steps_more : (cs : List B.Call) (c : B.Call) → steps_of (cs ++ (c ∷ [])) ≡ steps_of cs ++ (Call c.code c.number ∷ [])
+steps_more : (cs : List B.Call) (c : B.Call) → steps_of (cs ++ (c ∷ [])) ≡ steps_of cs ++ (Some (record { code = c.code; number = c.number }) ∷ [])
 unfolding steps_of
 steps_more [] c = refl
 steps_more (x ∷ cs) c = rw (steps_more cs c)
@@ -31,4 +31,4 @@ reader_hands_out_calls f p n more e =
     let s = section_of f 2 in
     let k : length s / 8 ≡ n = omega (arith, h.long) in
     let all = rw k at (hands_out_calls s more).0 in
-    (all ∙ rw k (ap (λ (xs : List Step). xs ++ replicate more End) (first_same s n)), h.count)
+    (all ∙ rw k (ap (λ (xs : List (Option CodedCall)). xs ++ replicate more None) (first_same s n)), h.count)

@@ -1,17 +1,15 @@
 -- What the program `statement` prints of a trip file, as figures (statement-1, statement-2). Choices
 -- (docs/DECISIONS.md, "Statement"): `refused`; L none. Assumes nothing.
-use Rattle.std.specs.Prelude.{ℕ, List}
+use Rattle.std.specs.Prelude.{ℕ, List, Result, Ok, Err}
 use Rattle.tariff.specs.declared.Plan.{Plan}
+use Rattle.tariff.specs.declared.Refusal.{Refusal}
 use Rattle.state.specs.declared.State.{State}
 use Rattle.account.specs.Answers.{open_answer}
 use Rattle.replay.specs.declared.Replayed.{Replayed}
 use Rattle.replay.specs.Replay.{replay_of}
-use Rattle.tripfile.specs.declared.Read.{Read}
-use Rattle.tripfile.specs.declared.Read.TheVariants as Told
+use Rattle.tripfile.specs.declared.Trip.{Trip}
 use Rattle.tripfile.specs.Reading.{read_of, calls_of}
 use Rattle.report.specs.declared.Figures.{Figures}
-use Rattle.report.specs.declared.Report.{Report}
-use Rattle.report.specs.declared.Report.TheVariants.{Lines, Refused}
 
 -- statement-1: the nine figures
 unfoldable pub figures_with : State → ℕ → Figures
@@ -36,10 +34,10 @@ abbrev pub trip_run : List ℕ → Plan → Replayed
 trip_run f p = replay_of (open_answer p).account (calls_of f)
 
 -- statement-1, statement-2, form-8: the figures, or the number of a bad file
-unfoldable pub report_on : List ℕ → Read → Report
-report_on f (Told.Trip p n) = Lines (figures_of (trip_run f p))
-report_on f (Told.Refused n) = Refused n
+unfoldable pub report_on : List ℕ → Result Trip Refusal → Result Figures Refusal
+report_on f (Ok t) = Ok (figures_of (trip_run f t.plan))
+report_on f (Err r) = Err r
 
 -- statement-1, statement-2: of a file's bytes
-unfoldable pub report_of : List ℕ → Report
+unfoldable pub report_of : List ℕ → Result Figures Refusal
 report_of f = report_on f (read_of f)

@@ -1,14 +1,14 @@
 // The figures that the program `statement` prints, from the bytes of a trip file (statement-1, statement-2).
 #![tactic(auto)]
 
-ghost use Rattle.std.specs.Prelude.{◌≡◌};
+ghost use Rattle.std.specs.Prelude.{◌≡◌, Ok};
 ghost use Rattle.tripfile.specs.Reading.{read_of};
 ghost use Rattle.report.specs.Handed.{ReaderHandsOutCalls};
 ghost use Rattle.report.specs.Statement.{figures_with, figures_of, report_of, trip_run};
 
 use state::State;
-use tariff::{Allowance, Plan};
-use tripfile::Read;
+use tariff::{Allowance, Refusal};
+use tripfile::Trip;
 
 // The nine figures.
 #[derive(Clone, Copy)]
@@ -24,30 +24,21 @@ pub struct Figures {
     pub refused: usize,
 }
 
-// What the program prints: the figures, or the number of a bad file.
-#[derive(Clone, Copy)]
-pub enum Report {
-    Lines(Figures),
-    Refused(u64),
-}
-
 // The figures of an account after its calls, of which so many were refused.
+#[tactic(auto, unfolding(crate::specs::Statement::figures_with))]
 pub fn show_figures(s: State, refused: usize) -> Figures
     ensures { result ≡ figures_with s refused }
 {
-    let quota = s.quota;
-    let limit = quota.allowance;
-    let surcharged = s.meters.surcharged;
     Figures {
         day: s.day,
         paid: s.money.paid,
         credit: s.money.credit,
         home: s.money.homecharges,
         extra: s.money.surcharges,
-        limit: limit,
+        limit: s.quota.allowance,
         roamed: s.quota.roamed,
-        past: surcharged.kb,
-        refused: refused,
+        past: s.meters.surcharged.kb,
+        refused,
     }
 }
 
@@ -58,28 +49,21 @@ pub fn reader_hands_out_calls()
 
 // The figures after all calls of a trip file that was read, on an account that is opened under its plan. The log is in
 // one place, and no whole account is held.
-fn trip_figures(file: &[u8], plan: Plan, calls: usize) -> Figures
-    requires { read_of file.now ≡ Read.Trip plan calls }
-    ensures { result ≡ figures_of (trip_run file.now plan) }
+fn trip_figures(file: &[u8], trip: Trip) -> Figures
+    requires { read_of file.now ≡ Ok trip }
+    ensures { result ≡ figures_of (trip_run file.now trip.plan) }
 {
-    let opened = account::open_with(plan);
-    let state = opened.state;
+    let opened = account::open_with(trip.plan);
     let mut log = presence::log::log_empty();
-    let t = replay::section_with(sections::part(file, 2), state, &mut log);
-    let last = t.state;
-    show_figures(last, t.refused)
+    let t = replay::section_with(sections::part(file, 2), opened.state, &mut log);
+    show_figures(t.state, t.refused)
 }
 
-// The figures of a trip file's bytes.
-pub fn statement_of(file: &[u8]) -> Report
+// The figures that the program prints of a trip file's bytes, or why it is a bad file.
+#[tactic(auto, unfolding(crate::specs::Statement::report_of, crate::specs::Statement::report_on))]
+pub fn statement_of(file: &[u8]) -> Result<Figures, Refusal>
     ensures { result ≡ report_of file.now }
 {
-    let read = tripfile::reading::read(file);
-    match read {
-        Read::Trip { plan, calls } => {
-            let f = trip_figures(file, plan, calls);
-            Report::Lines(f)
-        }
-        Read::Refused(n) => Report::Refused(n),
-    }
+    let trip = tripfile::reading::read(file)?;
+    Ok(trip_figures(file, trip))
 }

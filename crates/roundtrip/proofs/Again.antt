@@ -10,8 +10,6 @@ use borrow.Author.Tests.{le-leb, le-ltb, eq-eqb, ne_eqb, eqb-true, eqb-false, lt
 use Rattle.words.specs.Words.{word, bytes_of, wrapped_sum, total, closing_word, Bytes}
 use Rattle.words.proofs.Read.{Fit, more, fit_of, word_fits, word_of_part, of_words, sum_written, two_total}
 use Rattle.tariff.specs.declared.Plan.{Plan}
-use Rattle.tariff.specs.declared.Verdict.{Verdict}
-use Rattle.tariff.specs.declared.Verdict.TheVariants as Told
 use Rattle.tariff.specs.Tests.{verdict_of, is_accepted}
 use Rattle.tariff.specs.Plan.{form_word, form_of, plan_with, plan_verdict}
 use Rattle.sections.specs.Table.{section_count, start_at, length_at, body_start}
@@ -19,7 +17,6 @@ use Rattle.sections.specs.Find.{part_of}
 use Rattle.tariff.proofs.Verdicts.{then, accepted_is}
 use Rattle.sections.proofs.Table.{keeps, entry_start, body_more}
 use Rattle.sections.proofs.Finding.{found, section_is}
-use Rattle.tripfile.specs.declared.Written.TheVariants as Wrote
 use Rattle.tripfile.specs.Bodies.{Call, call, call_at, calls_in, call_words, plan_words, terms_in, paired, codes_of, numbers_of, calls_right, PlanFits}
 use Rattle.tripfile.specs.Reading.{calls_of}
 use Rattle.tripfile.specs.Writing.{file_size, later_words, file_words, file_of, calls_reasons, write_verdict, write_answer, written_of, buffer_of}
@@ -30,6 +27,8 @@ use Rattle.tripfile.proofs.Held.{answers}
 use Rattle.roundtrip.specs.Trips.{PlanThenCalls, WritesAs, ReadWritesAgain}
 use Rattle.roundtrip.proofs.Made.{plan_part, calls_part}
 use Rattle.roundtrip.proofs.Back.{buffer_is}
+use Rattle.std.specs.Prelude.{Result, Ok, ⊤}
+use Rattle.tariff.specs.declared.Refusal.{Refusal}
 
 form_forth : (w : ℕ) → w ≤ 2 → form_word (form_of w) ≡ w
 unfolding form_of
@@ -183,16 +182,16 @@ module _ (f : List ℕ) (k : ℕ) (t : Two f k) (low-form : word (part_of f 1) 0
 
 -- ---- the writer accepts what was read
 
-pub calls_accepted : (cs ns : List ℕ) (room : ℕ) → (length cs ≡ 0 → ⊥) → length cs ≤ 8184 → length ns ≡ length cs → calls_right (paired cs ns) ≡ true → file_size (length cs) ≤ room → verdict_of (calls_reasons cs ns room) ≡ Told.Accepted
+pub calls_accepted : (cs ns : List ℕ) (room : ℕ) → (length cs ≡ 0 → ⊥) → length cs ≤ 8184 → length ns ≡ length cs → calls_right (paired cs ns) ≡ true → file_size (length cs) ≤ room → verdict_of (calls_reasons cs ns room) ≡ (Ok tt)
 unfolding calls_reasons verdict_of
 calls_accepted cs ns room c d e g h = rw (ne_eqb (length cs) 0 c, le-leb (length cs) 8184 d, eq-eqb (length ns) (length cs) e, g, le-ltb room (file_size (length cs)) h)
 
-pub write_accepted : (p : Plan) (cs ns : List ℕ) (room : ℕ) → is_accepted (plan_verdict p) ≡ true → verdict_of (calls_reasons cs ns room) ≡ Told.Accepted → write_verdict p cs ns room ≡ Told.Accepted
-write_accepted p cs ns room a b = write_then p cs ns room ∙ (ap (λ (v : Verdict). then v (verdict_of (calls_reasons cs ns room))) (accepted_is (plan_verdict p) a) ∙ b)
+pub write_accepted : (p : Plan) (cs ns : List ℕ) (room : ℕ) → is_accepted (plan_verdict p) ≡ true → verdict_of (calls_reasons cs ns room) ≡ (Ok tt) → write_verdict p cs ns room ≡ (Ok tt)
+write_accepted p cs ns room a b = write_then p cs ns room ∙ (ap (λ (v : Result ⊤ Refusal). then v (verdict_of (calls_reasons cs ns room))) (accepted_is (plan_verdict p) a) ∙ b)
 
-pub written_is : (p : Plan) (cs ns buf : List ℕ) → write_verdict p cs ns (length buf) ≡ Told.Accepted → written_of p cs ns buf ≡ Wrote.Bytes (file_size (length cs))
+pub written_is : (p : Plan) (cs ns buf : List ℕ) → write_verdict p cs ns (length buf) ≡ (Ok tt) → written_of p cs ns buf ≡ Ok (file_size (length cs))
 unfolding written_of
-written_is p cs ns buf h = ap (λ (v : Verdict). write_answer v (file_size (length cs))) h
+written_is p cs ns buf h = ap (λ (v : Result ⊤ Refusal). write_answer v (file_size (length cs))) h
 
 again : (f buf : List ℕ) → Bytes f → Reads f → PlanThenCalls f → length f ≤ length buf → WritesAs (plan_with (terms_in (part_of f 1))) f buf
 again f buf h l tab r =
@@ -208,12 +207,12 @@ again f buf h l tab r =
     let lc = length_codes zs in
     let ln = length-numbers zs in
     let pair : paired cs ns ≡ zs = paired_again zs in
-    let ok : write_verdict p cs ns (length buf) ≡ Told.Accepted =
+    let ok : write_verdict p cs ns (length buf) ≡ (Ok tt) =
     write_accepted p cs ns (length buf) l.parts.plan (calls_accepted cs ns (length buf) (λ z. t.some (sym n ∙ (sym lc ∙ z))) (omega (arith, t.few)) (ln ∙ sym lc) (ap calls_right pair ∙ l.parts.right) (omega (arith, t.long))) in
     let size : file_size (length cs) ≡ length f = omega (arith, t.long) in
     let same : file_of p (paired cs ns) ≡ f = ap (file_of p) pair ∙ sym (same_file f k t low (plan_fits p l.parts.plan)) in
     record {
-      answer = ap (λ (ys : List Call). written_of p (codes_of ys) (numbers_of ys) buf) e ∙ (written_is p cs ns buf ok ∙ ap Wrote.Bytes size);
+      answer = ap (λ (ys : List Call). written_of p (codes_of ys) (numbers_of ys) buf) e ∙ (written_is p cs ns buf ok ∙ ap Ok size);
       bytes =
           ap (λ (ys : List Call). buffer_of p (codes_of ys) (numbers_of ys) buf) e
           ∙ (buffer_is p cs ns buf ok ∙ (ap (λ (g : List ℕ). g ++ drop (file_size (length cs)) buf) same ∙ ap (λ (m : ℕ). f ++ drop m buf) size));

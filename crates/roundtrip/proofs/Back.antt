@@ -9,13 +9,12 @@ use lib.ListN.{length, get_or, take, drop}
 use lib.Seq.{take_at, take_all, take-suc}
 use borrow.Author.Tests.{eq-eqb, ne_eqb}
 use Rattle.words.specs.Words.{word, bytes_of}
+use Rattle.std.proofs.lemmas.Result.{IfOk-at_ok}
 use Rattle.words.proofs.Written.{length-bytes_of}
 use Rattle.words.proofs.Read.{Fit, fit_of, word_in}
 use Rattle.tariff.specs.declared.Plan.{Plan}
 use Rattle.tariff.specs.declared.Form.{Form}
 use Rattle.tariff.specs.declared.Form.TheVariants.{Prepaid, Bundle, Unlimited}
-use Rattle.tariff.specs.declared.Verdict.{Verdict}
-use Rattle.tariff.specs.declared.Verdict.TheVariants as Told
 use Rattle.tariff.specs.Tests.{verdict_of, is_accepted}
 use Rattle.tariff.specs.Plan.{form_word, form_of, plan_with, plan_verdict, terms_reasons}
 use Rattle.tariff.proofs.Tests.{and_both}
@@ -24,16 +23,17 @@ use Rattle.sections.specs.Table.{file_verdict}
 use Rattle.sections.specs.Find.{just_once, part_of}
 use Rattle.tariff.proofs.Verdicts.{then, accepted_is}
 use Rattle.sections.proofs.Finding.{found, section_is}
-use Rattle.tripfile.specs.declared.Read.TheVariants.{Trip}
-use Rattle.tripfile.specs.declared.Written.TheVariants as Wrote
 use Rattle.tripfile.specs.Bodies.{Call, call, call_at, first_calls, calls_in, call_words, plan_words, terms_in, paired, codes_of, numbers_of, calls_right, PlanFits}
-use Rattle.tripfile.specs.Reading.{calls_body_right, body_reasons, read_verdict, read_answer, read_of, calls_of}
+use Rattle.tripfile.specs.Reading.{calls_body_right, body_reasons, read_verdict, trip, read_answer, read_of, calls_of}
 use Rattle.tripfile.specs.Writing.{file_size, file_of, write_verdict, write_answer, written_of, filled_or_kept, buffer_of}
 use Rattle.tripfile.proofs.Listed.{length_words, length-paired, code_word, number_word, fit_calls, codes_paired, numbers_paired}
-use Rattle.tripfile.proofs.Accepted.{Writes, writes, plan_fits, read_then, bodies_then}
+use Rattle.tripfile.proofs.Accepted.{Writes, writes, plan_fits, read_then}
 use Rattle.tripfile.proofs.Filled.{fit_plan, length_plan}
 use Rattle.roundtrip.specs.Trips.{ReadsAs, WrittenReadsBack}
 use Rattle.roundtrip.proofs.Made.{made, length_file, file_accepted, plan_once, calls_once, plan_bytes, calls_bytes}
+use Rattle.std.specs.Prelude.{Result, Ok, Err, ⊤}
+use Rattle.tariff.specs.declared.Refusal.{Refusal}
+use Rattle.tariff.specs.declared.Refusal.TheVariants.{NotOnce}
 
 -- ---- the plan
 
@@ -100,16 +100,20 @@ terms_accepted p s h =
 sizes_right : (q k : List ℕ) → length q ≡ 28 → (length k ≡ 0 → ⊥) → length k % 8 ≡ 0 → (eqb (length q) 28 && calls_body_right k) ≡ true
 sizes_right q k a b c = rw (eq-eqb (length q) 28 a, ne_eqb (length k) 0 b, eq-eqb (length k % 8) 0 c)
 
-pub read_accepted : (f : List ℕ) → is_accepted (file_verdict f) ≡ true → just_once f 1 ≡ true → just_once f 2 ≡ true → is_accepted (verdict_of (body_reasons (part_of f 1) (part_of f 2))) ≡ true → read_verdict f ≡ Told.Accepted
+pub read_accepted : (f : List ℕ) → is_accepted (file_verdict f) ≡ true → just_once f 1 ≡ true → just_once f 2 ≡ true → is_accepted (verdict_of (body_reasons (part_of f 1) (part_of f 2))) ≡ true → read_verdict f ≡ (Ok tt)
 read_accepted f a b c d =
     let v = verdict_of (body_reasons (part_of f 1) (part_of f 2)) in
     read_then f
-    ∙ (ap (λ (w : Verdict). then w (cond (not (just_once f 1 && just_once f 2)) (Told.Refused 13) v)) (accepted_is (file_verdict f) a)
-    ∙ (ap (λ (x : Bool). cond (not x) (Told.Refused 13) v) (and_both (just_once f 1) (just_once f 2) b c) ∙ accepted_is v d))
+    ∙ (ap (λ (w : Result ⊤ Refusal). then w (cond (not (just_once f 1 && just_once f 2)) (Err NotOnce) v)) (accepted_is (file_verdict f) a)
+    ∙ (ap (λ (x : Bool). cond (not x) (Err NotOnce) v) (and_both (just_once f 1) (just_once f 2) b c) ∙ accepted_is v d))
 
-read_is : (f : List ℕ) → read_verdict f ≡ Told.Accepted → read_of f ≡ Trip (plan_with (terms_in (part_of f 1))) (length (part_of f 2) / 8)
+bodies_then : (p c : List ℕ) → (eqb (length p) 28 && calls_body_right c) ≡ true → calls_right (calls_in c) ≡ true → verdict_of (body_reasons p c) ≡ verdict_of (terms_reasons (terms_in p))
+unfolding body_reasons verdict_of
+bodies_then p c a b = rw (a, b)
+
+read_is : (f : List ℕ) → read_verdict f ≡ (Ok tt) → read_of f ≡ Ok (trip (plan_with (terms_in (part_of f 1))) (length (part_of f 2) / 8))
 unfolding read_of
-read_is f h = ap (λ (v : Verdict). read_answer v (plan_with (terms_in (part_of f 1))) (length (part_of f 2) / 8)) h
+read_is f h = ap (λ (v : Result ⊤ Refusal). read_answer v (plan_with (terms_in (part_of f 1))) (length (part_of f 2) / 8)) h
 
 back : (p : Plan) (cs ns : List ℕ) (room : ℕ) → Fit cs → Fit ns → Writes p cs ns room → ReadsAs (file_of p (paired cs ns)) p cs ns
 back p cs ns room g h w =
@@ -137,29 +141,29 @@ back p cs ns room g h w =
     record {
       answer =
           read_is f (read_accepted f ok o₁ o₂ bodies')
-          ∙ (ap (λ (x : List ℕ). Trip (plan_with (terms_in x)) (length (part_of f 2) / 8)) (plan_bytes m)
-          ∙ (ap (λ (x : List ℕ). Trip (plan_with (terms_in Q)) (length x / 8)) (calls_bytes m)
-          ∙ (ap (λ (q : Plan). Trip q (length K / 8)) (plan_back p s) ∙ ap (Trip p) eighth)));
+          ∙ (ap (λ (x : List ℕ). Ok (trip (plan_with (terms_in x)) (length (part_of f 2) / 8))) (plan_bytes m)
+          ∙ (ap (λ (x : List ℕ). Ok (trip (plan_with (terms_in Q)) (length x / 8))) (calls_bytes m)
+          ∙ (ap (λ (q : Plan). Ok (trip q (length K / 8))) (plan_back p s) ∙ ap (λ (n : ℕ). Ok (trip p n)) eighth)));
       codes = ap codes_of calls ∙ codes_paired cs ns w.same;
       numbers = ap numbers_of calls ∙ numbers_paired cs ns w.same;
     }
 
 -- an answer of n bytes is that of an accepted write
 record Answers (p : Plan) (cs ns buf : List ℕ) (n : ℕ) : Type 0 where
-  pub accepted : write_verdict p cs ns (length buf) ≡ Told.Accepted
+  pub accepted : write_verdict p cs ns (length buf) ≡ (Ok tt)
   pub size : n ≡ file_size (length cs)
 
-answers : (p : Plan) (cs ns buf : List ℕ) (n : ℕ) → written_of p cs ns buf ≡ Wrote.Bytes n → Answers p cs ns buf n
+answers : (p : Plan) (cs ns buf : List ℕ) (n : ℕ) → written_of p cs ns buf ≡ Ok n → Answers p cs ns buf n
 unfolding written_of
 answers p cs ns buf n h = go (write_verdict p cs ns (length buf)) refl h
   where
-    go : (v : Verdict) → write_verdict p cs ns (length buf) ≡ v → write_answer v (file_size (length cs)) ≡ Wrote.Bytes n → Answers p cs ns buf n
-    go Told.Accepted e g = record { accepted = e; size = cc }
-    go (Told.Refused r) e g = let z : ◌≡◌ {A = ℕ} 0 1 = cc in absurd (omega arith)
+    go : (v : Result ⊤ Refusal) → write_verdict p cs ns (length buf) ≡ v → write_answer v (file_size (length cs)) ≡ Ok n → Answers p cs ns buf n
+    go (Ok tt) e g = record { accepted = e; size = IfOk-at_ok (λ (m : ℕ). m ≡ file_size (length cs)) g refl }
+    go (Err r) e g = cc
 
-pub buffer_is : (p : Plan) (cs ns buf : List ℕ) → write_verdict p cs ns (length buf) ≡ Told.Accepted → buffer_of p cs ns buf ≡ file_of p (paired cs ns) ++ drop (file_size (length cs)) buf
+pub buffer_is : (p : Plan) (cs ns buf : List ℕ) → write_verdict p cs ns (length buf) ≡ (Ok tt) → buffer_of p cs ns buf ≡ file_of p (paired cs ns) ++ drop (file_size (length cs)) buf
 unfolding buffer_of
-buffer_is p cs ns buf h = ap (λ (v : Verdict). filled_or_kept v (file_of p (paired cs ns) ++ drop (file_size (length cs)) buf) buf) h
+buffer_is p cs ns buf h = ap (λ (v : Result ⊤ Refusal). filled_or_kept v (file_of p (paired cs ns) ++ drop (file_size (length cs)) buf) buf) h
 
 pub written_reads_back : WrittenReadsBack
 written_reads_back p cs ns buf n hc hn h =

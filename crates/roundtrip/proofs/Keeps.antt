@@ -13,13 +13,12 @@ use Rattle.sections.specs.Table.{section_count, start_at, length_at}
 use Rattle.sections.specs.Find.{entry_to, part_of}
 use Rattle.sections.proofs.Finding.{found, section_is}
 use Rattle.tariff.specs.declared.Plan.{Plan}
-use Rattle.tripfile.specs.declared.Read.TheVariants.{Trip}
-use Rattle.tripfile.specs.declared.Written.TheVariants as Wrote
 use Rattle.tripfile.specs.Bodies.{Call, call_at, first_calls, calls_in, codes_of, numbers_of, calls_right, paired}
-use Rattle.tripfile.specs.Reading.{read_of, calls_of}
+use Rattle.tripfile.specs.Reading.{trip, read_of, calls_of}
 use Rattle.tripfile.proofs.Listed.{length_codes, length-numbers, paired_again}
 use Rattle.tripfile.proofs.Accepted.{reads}
 use Rattle.tripfile.proofs.Held.{answers, holds}
+use Rattle.std.specs.Prelude.{Ok}
 use Rattle.roundtrip.specs.Trips.{ReadKeepsTrip}
 use Rattle.roundtrip.proofs.Back.{written_reads_back}
 use Rattle.roundtrip.proofs.Again.{calls_accepted, write_accepted, written_is}
@@ -52,7 +51,7 @@ bytes_part f a n h i = go (ltb i n) refl
     go false e = rw (get_or-eq_default (take n (drop a f)) 0 {n = i} (omega (arith, length-take n (drop a f), ltb-false i n e))) (lit< tt)
 
 -- the codes and the numbers of a file that was read are words
-pub words_read : (f : List ℕ) (p : Plan) (n : ℕ) → Bytes f → read_of f ≡ Trip p n
+pub words_read : (f : List ℕ) (p : Plan) (n : ℕ) → Bytes f → read_of f ≡ Ok (trip p n)
     → Words (codes_of (calls_of f)) × Words (numbers_of (calls_of f))
 unfolding calls_in part_of
 words_read f p n h e =
@@ -80,7 +79,7 @@ read_keeps_trip f buf p n h e r =
     let ln = length-numbers zs in
     let right : calls_right (paired cs ns) ≡ true = ap calls_right (paired_again zs) ∙ (ap calls_right q ∙ l.parts.right) in
     let ok = write_accepted p cs ns (length buf) o.plan (calls_accepted cs ns (length buf) (λ z. omega (arith, z, lc, o.count, o.some)) (omega (arith, lc, o.count, o.few)) (ln ∙ sym lc) right (omega (arith, lc, o.count))) in
-    let w : _ = written_is p cs ns buf ok ∙ ap (λ (m : ℕ). Wrote.Bytes (64 + 8 * m)) (lc ∙ o.count) in
+    let w : _ = written_is p cs ns buf ok ∙ ap (λ (m : ℕ). Ok (64 + 8 * m)) (lc ∙ o.count) in
     record {
       answer = w;
       again = written_reads_back p cs ns buf (64 + 8 * n) (words_read f p n h e).0 (words_read f p n h e).1 w;

@@ -9,42 +9,43 @@ use lib.ListN.{length, take, drop, length-take, length-drop}
 use lib.Dec.{ltb, eqb}
 use borrow.Author.Tests.{eqb-true, ltb-true, ltb-false}
 use Rattle.tariff.specs.Tests.{because, verdict_of, is_accepted}
-use Rattle.tariff.specs.declared.Verdict.{Verdict}
-use Rattle.tariff.specs.declared.Verdict.TheVariants.{Accepted, Refused}
 use Rattle.sections.specs.Table.{section_count, kind_at, start_at, length_at, body_start, file_reasons, file_verdict}
 use Rattle.sections.specs.Find.{one_if, times_to, entry_to, just_once, part_of, find_reasons, find_verdict, or_nothing, section_of, part_start, part_length}
 use Rattle.tariff.proofs.Verdicts.{then, verdict-append, then_both}
 use Rattle.sections.proofs.Table.{Keeps, entry_start, body_more, body_grows}
+use Rattle.std.specs.Prelude.{Result, Ok, Err, ⊤}
+use Rattle.tariff.specs.declared.Refusal.{Refusal}
+use Rattle.tariff.specs.declared.Refusal.TheVariants.{NotOnce}
 
 -- finding declines what the file is declined for, and then 13
-pub find_then : (f : List ℕ) (k : ℕ) → find_verdict f k ≡ then (file_verdict f) (cond (not (just_once f k)) (Refused 13) Accepted)
+pub find_then : (f : List ℕ) (k : ℕ) → find_verdict f k ≡ then (file_verdict f) (cond (not (just_once f k)) (Err NotOnce) (Ok tt))
 unfolding find_verdict find_reasons file_verdict verdict_of
-find_then f k = verdict-append (file_reasons f) (because 13 (not (just_once f k)) ∷ [])
+find_then f k = verdict-append (file_reasons f) (because NotOnce (not (just_once f k)) ∷ [])
 
 pub found_both : (f : List ℕ) (k : ℕ) → is_accepted (find_verdict f k) ≡ true → (is_accepted (file_verdict f) ≡ true) × (just_once f k ≡ true)
 found_both f k h =
-    let t = then_both (file_verdict f) (cond (not (just_once f k)) (Refused 13) Accepted) (ap is_accepted (sym (find_then f k)) ∙ h) in
+    let t = then_both (file_verdict f) (cond (not (just_once f k)) (Err NotOnce) (Ok tt)) (ap is_accepted (sym (find_then f k)) ∙ h) in
     (t.0, go (just_once f k) t.1)
   where
-    go : (b : Bool) → is_accepted (cond (not b) (Refused 13) Accepted) ≡ true → b ≡ true
+    go : (b : Bool) → is_accepted (cond (not b) (Err NotOnce) (Ok tt)) ≡ true → b ≡ true
     go true e = refl
     go false e = e
 
 pub found : (f : List ℕ) (k : ℕ) → is_accepted (file_verdict f) ≡ true → just_once f k ≡ true → is_accepted (find_verdict f k) ≡ true
 found f k a b = ap is_accepted (find_then f k) ∙ go (file_verdict f) a
   where
-    go : (v : Verdict) → is_accepted v ≡ true → is_accepted (then v (cond (not (just_once f k)) (Refused 13) Accepted)) ≡ true
-    go Accepted e = rw b
-    go (Refused n) e = e
+    go : (v : Result ⊤ Refusal) → is_accepted v ≡ true → is_accepted (then v (cond (not (just_once f k)) (Err NotOnce) (Ok tt))) ≡ true
+    go (Ok tt) e = rw b
+    go (Err n) e = e
 
 -- a section that is found is the part that its entry names
 pub section_is : (f : List ℕ) (k : ℕ) → is_accepted (find_verdict f k) ≡ true → section_of f k ≡ part_of f k
 unfolding section_of
 section_is f k h = go (find_verdict f k) h
   where
-    go : (v : Verdict) → is_accepted v ≡ true → or_nothing v (part_of f k) ≡ part_of f k
-    go Accepted e = refl
-    go (Refused n) e = cc
+    go : (v : Result ⊤ Refusal) → is_accepted v ≡ true → or_nothing v (part_of f k) ≡ part_of f k
+    go (Ok tt) e = refl
+    go (Err n) e = cc
 
 -- ---- one entry more
 

@@ -1,11 +1,11 @@
 -- Finding a section (find-1, find-2, refusal-13). Choices (docs/DECISIONS.md, "Trip file"): finding; other kinds.
 -- Assumes nothing.
-use Rattle.std.specs.Prelude.{ℕ, zero, suc, ◌+◌, Bool, true, false, cond, not, List, [], ◌∷◌, ◌++◌, take, drop, eqb}
+use Rattle.std.specs.Prelude.{ℕ, zero, suc, ◌+◌, Bool, true, false, cond, not, List, [], ◌∷◌, ◌++◌, take, drop, eqb, Result, Ok, Err, ⊤}
 use Rattle.tariff.specs.Tests.{Reason, because, verdict_of}
-use Rattle.tariff.specs.declared.Verdict.{Verdict}
-use Rattle.tariff.specs.declared.Verdict.TheVariants.{Accepted, Refused}
 use Rattle.sections.specs.declared.Extent.{Extent}
 use Rattle.sections.specs.Table.{section_count, kind_at, start_at, length_at, file_reasons}
+use Rattle.tariff.specs.declared.Refusal.{Refusal}
+use Rattle.tariff.specs.declared.Refusal.TheVariants.{NotOnce}
 
 -- aid to `times_to`: 1 where a test passes
 abbrev pub one_if : Bool → ℕ
@@ -36,16 +36,16 @@ part_of f k = body_at f (entry_to f k (section_count f))
 
 -- order-4, refusal-13: of finding, those of the whole file and then 13
 unfoldable pub find_reasons : List ℕ → ℕ → List Reason
-find_reasons f k = file_reasons f ++ (because 13 (not (just_once f k)) ∷ [])
+find_reasons f k = file_reasons f ++ (because NotOnce (not (just_once f k)) ∷ [])
 
 -- find-2, order-1: the number that declines it, or accepted
-unfoldable pub find_verdict : List ℕ → ℕ → Verdict
+unfoldable pub find_verdict : List ℕ → ℕ → Result ⊤ Refusal
 find_verdict f k = verdict_of (find_reasons f k)
 
 -- find-1: the part, or an empty one on a refusal
-abbrev pub or_nothing : Verdict → List ℕ → List ℕ
-or_nothing Accepted part = part
-or_nothing (Refused n) part = []
+abbrev pub or_nothing : Result ⊤ Refusal → List ℕ → List ℕ
+or_nothing (Ok tt) part = part
+or_nothing (Err n) part = []
 
 -- find-1, form-4: the bytes that finding hands back
 unfoldable pub section_of : List ℕ → ℕ → List ℕ
@@ -64,9 +64,9 @@ abbrev pub part_extent : List ℕ → ℕ → Extent
 part_extent f k = record { start = part_start f k; length = part_length f k }
 
 -- find-1: an empty part stands at the file's first byte
-abbrev pub or_first : Verdict → ℕ → ℕ
-or_first Accepted n = n
-or_first (Refused r) n = 0
+abbrev pub or_first : Result ⊤ Refusal → ℕ → ℕ
+or_first (Ok tt) n = n
+or_first (Err r) n = 0
 
 -- find-1, form-4: how many bytes of the lent file stand before the part
 unfoldable pub section_start : List ℕ → ℕ → ℕ

@@ -1,10 +1,11 @@
 -- Length, sum and table of a file, whose bytes are the list f (file-2 to file-6, refusal-10 to refusal-12). Choices
 -- (docs/DECISIONS.md, "Trip file"): section of length 0; start and length; a table that does not fit in the file;
 -- length. Assumes nothing.
-use Rattle.std.specs.Prelude.{ℕ, zero, suc, ◌+◌, ◌*◌, ◌%◌, Bool, true, ◌&&◌, not, List, [], ◌∷◌, length, leb, eqb}
+use Rattle.std.specs.Prelude.{ℕ, zero, suc, ◌+◌, ◌*◌, ◌%◌, Bool, true, ◌&&◌, not, List, [], ◌∷◌, length, leb, eqb, Result, ⊤}
 use Rattle.words.specs.Words.{word, wrapped_sum}
 use Rattle.tariff.specs.Tests.{Reason, because, verdict_of}
-use Rattle.tariff.specs.declared.Verdict.{Verdict}
+use Rattle.tariff.specs.declared.Refusal.{Refusal}
+use Rattle.tariff.specs.declared.Refusal.TheVariants.{FileLength, FileSum, FileTable}
 
 -- refusal-10, file-2: the length is as it has to be
 unfoldable pub length_right : List ℕ → Bool
@@ -49,11 +50,11 @@ table_right f =
 -- order-4, refusal-10, refusal-11, refusal-12: what Read and finding share
 unfoldable pub file_reasons : List ℕ → List Reason
 file_reasons f =
-    because 10 (not (length_right f))
-    ∷ because 11 (not (sum_right f))
-    ∷ because 12 (not (table_right f))
+    because FileLength (not (length_right f))
+    ∷ because FileSum (not (sum_right f))
+    ∷ because FileTable (not (table_right f))
     ∷ []
 
 -- order-1: the first of these that holds
-unfoldable pub file_verdict : List ℕ → Verdict
+unfoldable pub file_verdict : List ℕ → Result ⊤ Refusal
 file_verdict f = verdict_of (file_reasons f)

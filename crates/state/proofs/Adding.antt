@@ -6,34 +6,33 @@ use native.Mathlib.Omega.{arith}
 use Rattle.tariff.specs.declared.Units.{Units}
 use Rattle.tariff.specs.declared.Place.TheVariants.{Home, Zone, Elsewhere}
 use Rattle.tariff.specs.declared.Plan.{Plan}
-use Rattle.tariff.specs.declared.Allowance.{Allowance}
 use Rattle.tariff.specs.Units.{◌⊕◌, ◌⊗◌}
 use Rattle.tariff.specs.Caps.{built_in, caps_on}
 use Rattle.tariff.specs.Charges.{counted_kb, home_charges_of, surcharges_of}
 use Rattle.tariff.proofs.Sums.{⊕-assoc, ⊗-⊕, at_most_sum}
 use Rattle.tariff.proofs.ChargeLaws.{counted_adds, billed_adds, after_allowance_adds, home_charges_grow, surcharges_grow}
-use Rattle.presence.specs.declared.Location.{Location}
-use Rattle.presence.specs.declared.Location.TheVariants.{Nowhere, At}
 use Rattle.presence.specs.declared.ServiceState.{ServiceState}
 use Rattle.presence.specs.declared.ServiceState.TheVariants.{Clear, Warned, Surcharged}
 use Rattle.presence.specs.declared.Services.{Services}
 use Rattle.presence.proofs.Marks.{day_adds}
 use Rattle.state.specs.declared.State.{State}
 use Rattle.state.specs.Use.{billable, roaming, billed_of, surcharged_of, surcharged_units, billed_after, newly_surcharged, basis_after, home_after, extra_after, cost, spent}
+use Rattle.std.specs.Prelude.{Option, Some, None}
+use Rattle.tariff.specs.declared.Place.{Place}
 
-pub billable_adds : (w : Location) (u v : Units) → billable w u ⊕ billable w v ≡ billable w (u ⊕ v)
+pub billable_adds : (w : Option Place) (u v : Units) → billable w u ⊕ billable w v ≡ billable w (u ⊕ v)
 unfolding billable
-billable_adds Nowhere u v = refl
-billable_adds (At Home) u v = refl
-billable_adds (At Zone) u v = refl
-billable_adds (At Elsewhere) u v = refl
+billable_adds None u v = refl
+billable_adds (Some Home) u v = refl
+billable_adds (Some Zone) u v = refl
+billable_adds (Some Elsewhere) u v = refl
 
-pub roaming_adds : (w : Location) (u v : Units) → roaming w u ⊕ roaming w v ≡ roaming w (u ⊕ v)
+pub roaming_adds : (w : Option Place) (u v : Units) → roaming w u ⊕ roaming w v ≡ roaming w (u ⊕ v)
 unfolding roaming
-roaming_adds Nowhere u v = refl
-roaming_adds (At Home) u v = refl
-roaming_adds (At Zone) u v = refl
-roaming_adds (At Elsewhere) u v = refl
+roaming_adds None u v = refl
+roaming_adds (Some Home) u v = refl
+roaming_adds (Some Zone) u v = refl
+roaming_adds (Some Elsewhere) u v = refl
 
 part_adds : (s : ServiceState) (x y m n : ℕ) → surcharged_of s x m + surcharged_of s y n ≡ surcharged_of s (x + y) (m + n)
 unfolding surcharged_of
@@ -45,7 +44,7 @@ pub billed_of_adds : (p : Plan) (h : ℕ) (u v : Units) → billed_of p h u ⊕ 
 unfolding billed_of
 billed_of_adds p h u v = simp billed_adds
 
-pub surcharged_adds : (s : Services) (l : Allowance) (r : ℕ) (u v : Units) → surcharged_units s l r u ⊕ surcharged_units s l (r + u.kb) v ≡ surcharged_units s l r (u ⊕ v)
+pub surcharged_adds : (s : Services) (l : Option ℕ) (r : ℕ) (u v : Units) → surcharged_units s l r u ⊕ surcharged_units s l (r + u.kb) v ≡ surcharged_units s l r (u ⊕ v)
 unfolding surcharged_units
 surcharged_adds s l r u v = simp (part_adds, after_allowance_adds)
 

@@ -1,6 +1,6 @@
 -- The bounds of what a use makes of the sums, on a sound account. Assumes nothing.
 use Prim.Native.Nat.{◌+◌, ◌-◌, ◌≤◌}
-use mathlib.Core.Path.{◌≡◌, refl, ◌∙◌, ap}
+use mathlib.Core.Path.{◌≡◌, refl, ◌∙◌, ap, sym}
 use native.Mathlib.Nat.{mul-le-mul}
 use native.Mathlib.Omega.{arith}
 use Rattle.tariff.specs.declared.Units.{Units}
@@ -10,8 +10,6 @@ use Rattle.tariff.specs.Caps.{built_in, caps_on}
 use Rattle.tariff.specs.Charges.{counted_kb, PriceFits, BasisFits}
 use Rattle.tariff.proofs.Tables.{caps_bound}
 use Rattle.tariff.proofs.ChargeLaws.{counted_bounded, home_charges_bounded, surcharges_bounded}
-use Rattle.presence.specs.declared.Location.{Location}
-use Rattle.presence.specs.declared.Location.TheVariants.{Nowhere, At}
 use Rattle.presence.specs.declared.Day.{Day}
 use Rattle.presence.specs.Day.{mark_day, day_units, DayAdds}
 use Rattle.presence.specs.Log.{lifetime_most}
@@ -22,6 +20,8 @@ use Rattle.state.specs.Needs.{Ready, Steady, Spends, bill_of}
 use Rattle.state.proofs.Adding.{home_grows, extra_grows}
 use Rattle.state.proofs.Bounds.{billable_bounded, roaming_bounded, billed_of_bounded, newly_bounded}
 use Rattle.state.proofs.Soundness.{Counters, counters_tell, charges_tell, plan_of_state}
+use Rattle.std.specs.Prelude.{Option, Some, None}
+use Rattle.tariff.specs.declared.Place.{Place}
 
 billed_in : (a : State) (u : Units) → AtMost (billed_of a.plan a.quota.monthly (billable a.place u)) u
 billed_in a u = omega (arith, billable_bounded a.place u, billed_of_bounded a.plan a.quota.monthly (billable a.place u))
@@ -80,12 +80,12 @@ grown a u s r =
       extra_most = unfold extra_after in surcharges_bounded (basis_after a u) (basis_fits a u r);
     }
 
-marked_sum : (w : Location) (d : Day) (u l : Units) → AtMost (day_units d) l → Adds l u → DayAdds (mark_day w d) u
+marked_sum : (w : Option Place) (d : Day) (u l : Units) → AtMost (day_units d) l → Adds l u → DayAdds (mark_day w d) u
 unfolding mark_day
-marked_sum Nowhere d u l h a = record { home_adds = omega (arith, h); zone_adds = omega (arith, h); outside_adds = omega (arith, h) }
-marked_sum (At Home) d u l h a = record { home_adds = omega (arith, h); zone_adds = omega (arith, h); outside_adds = omega (arith, h) }
-marked_sum (At Zone) d u l h a = record { home_adds = omega (arith, h); zone_adds = omega (arith, h); outside_adds = omega (arith, h) }
-marked_sum (At Elsewhere) d u l h a = record { home_adds = omega (arith, h); zone_adds = omega (arith, h); outside_adds = omega (arith, h) }
+marked_sum None d u l h a = record { home_adds = omega (arith, h); zone_adds = omega (arith, h); outside_adds = omega (arith, h) }
+marked_sum (Some Home) d u l h a = record { home_adds = omega (arith, h); zone_adds = omega (arith, h); outside_adds = omega (arith, h) }
+marked_sum (Some Zone) d u l h a = record { home_adds = omega (arith, h); zone_adds = omega (arith, h); outside_adds = omega (arith, h) }
+marked_sum (Some Elsewhere) d u l h a = record { home_adds = omega (arith, h); zone_adds = omega (arith, h); outside_adds = omega (arith, h) }
 
 pub today_sum : (a : State) (u : Units) → Steady a → AtMost (a.meters.lifetime ⊕ u) lifetime_most → DayAdds (mark_day a.place a.today) u
 today_sum a u s r = marked_sum a.place a.today u a.meters.lifetime s.today (omega (arith, r))
@@ -109,3 +109,41 @@ zone_is s = ap (λ (x : Bill). x.zone) s.bill_is ∙ unfold bill_of in refl
 pub cost_is : (a : State) (u : Units) → cost a u ≡ ((bill_of a u).home - a.money.homecharges) + ((bill_of a u).extra - a.money.surcharges)
 unfolding cost bill_of
 cost_is a u = refl
+
+-- what is known of a use that is not refused, by its bill
+pub record Told (a : State) (c : Units) (b : Bill) : Type 0 where
+  pub grown : Grown a b
+  pub month : a.quota.monthly + b.counted ≤ 1000000000000
+  pub zone : a.quota.roamed + b.zone ≤ 1000000000000
+  pub seconds : a.meters.chargedseconds + c.outgoing ≤ 1000000000000
+  pub costs : (b.home - a.money.homecharges) + (b.extra - a.money.surcharges) ≡ cost a c
+  pub affordable : cost a c ≤ a.money.credit
+  pub fresh : Adds a.meters.surcharged b.fresh
+
+pub spends_tell : (a : State) (c : Units) (b : Bill) → Spends a c b → Told a c b
+spends_tell a c b s = record {
+  grown = rw s.bill_is (grown a c s.steady s.ready);
+  month = omega (arith, counted_is s, counted_in a c s.ready);
+  zone = omega (arith, zone_is s, counted_in a c s.ready);
+  seconds = omega (arith, s.ready.room);
+  costs = rw s.bill_is (sym (cost_is a c));
+  affordable = s.affordable;
+  fresh = rw s.bill_is (unfold bill_of in surcharged_sum a c s.ready);
+}
+
+-- what a use's bill tells before its cost is looked at, and where the credit is enough
+pub record Billed (a : State) (c : Units) (b : Bill) : Type 0 where
+  pub grown : Grown a b
+  pub costs : (b.home - a.money.homecharges) + (b.extra - a.money.surcharges) ≡ cost a c
+
+pub bill_tells : (a : State) (c : Units) (b : Bill) → Steady a → Ready a c → b ≡ bill_of a c → Billed a c b
+bill_tells a c b s r e = record { grown = rw e (grown a c s r); costs = rw e (sym (cost_is a c)) }
+
+pub affords : (a : State) (c : Units) (b : Bill) → Steady a → Ready a c → b ≡ bill_of a c
+    → (b.home - a.money.homecharges) + (b.extra - a.money.surcharges) ≤ a.money.credit → Spends a c b
+affords a c b s r e h = record {
+  steady = s;
+  ready = r;
+  bill_is = e;
+  affordable = let t = bill_tells a c b s r e in omega (arith, t.costs, h);
+}

@@ -8,76 +8,57 @@ use Rattle.tariff.specs.declared.Kind.{Kind}
 use Rattle.tariff.specs.declared.Kind.TheVariants.{Data, Outgoing, Incoming, Sms}
 use Rattle.tariff.specs.declared.Place.TheVariants.{Home, Zone, Elsewhere}
 use Rattle.tariff.specs.declared.Plan.{Plan}
-use Rattle.tariff.specs.declared.Allowance.{Allowance}
-use Rattle.tariff.specs.Units.{zero_units, only, AtMost}
-use Rattle.tariff.proofs.Sums.{only_order}
+use Rattle.tariff.specs.Units.{only, AtMost}
 use Rattle.tariff.proofs.ChargeLaws.{billed_bounded, after_allowance_bounded}
-use Rattle.presence.specs.declared.Location.{Location}
-use Rattle.presence.specs.declared.Location.TheVariants.{Nowhere, At}
 use Rattle.presence.specs.declared.ServiceState.{ServiceState}
 use Rattle.presence.specs.declared.ServiceState.TheVariants.{Clear, Warned, Surcharged}
 use Rattle.presence.specs.declared.Services.{Services}
 use Rattle.presence.specs.Day.{in_zone}
 use Rattle.state.specs.declared.State.{State}
 use Rattle.state.specs.Use.{charged_as, charged_units, with_seconds, billable, roaming, billed_of, surcharged_of, surcharged_units, newly_surcharged}
-use Rattle.state.specs.Needs.{bears}
+use Rattle.std.specs.Prelude.{Option, Some, None}
+use Rattle.tariff.specs.declared.Place.{Place}
 
 -- what a record is charged as
-either_grows : (b : Bool) (m n : ℕ) → m ≤ n → cond b (max m 30) m ≤ cond b (max n 30) n
-either_grows true m n h = omega arith
-either_grows false m n h = h
-
 either_few : (b : Bool) (n : ℕ) → n ≤ 1000000000 → cond b (max n 30) n ≤ 1000000000
 either_few true n h = omega arith
 either_few false n h = h
 
-charged_grow : (w : Location) (k : Kind) (m n : ℕ) → m ≤ n → charged_as w k m ≤ charged_as w k n
-unfolding charged_as
-charged_grow w Data m n h = h
-charged_grow w Outgoing m n h = either_grows (in_zone w) m n h
-charged_grow w Incoming m n h = h
-charged_grow w Sms m n h = h
-
-pub charged_few : (w : Location) (k : Kind) (n : ℕ) → n ≤ 1000000000 → charged_as w k n ≤ 1000000000
+pub charged_few : (w : Option Place) (k : Kind) (n : ℕ) → n ≤ 1000000000 → charged_as w k n ≤ 1000000000
 unfolding charged_as
 charged_few w Data n h = h
 charged_few w Outgoing n h = either_few (in_zone w) n h
 charged_few w Incoming n h = h
 charged_few w Sms n h = h
 
--- more units are charged as more
-pub charged_order : (w : Location) (k : Kind) (m n : ℕ) → m ≤ n → AtMost (charged_units w k m) (charged_units w k n)
-unfolding charged_units
-charged_order w k m n h = only_order k _ _ (charged_grow w k m n h)
-
 -- but for outgoing seconds a record is charged as its units
-pub charged_is : (w : Location) (k : Kind) (n : ℕ) → charged_units w k n ≡ with_seconds (only k n) (charged_units w k n).outgoing
+pub charged_is : (w : Option Place) (k : Kind) (n : ℕ) → charged_units w k n ≡ with_seconds (only k n) (charged_units w k n).outgoing
 unfolding charged_units charged_as
 charged_is w Data n = refl
 charged_is w Outgoing n = refl
 charged_is w Incoming n = refl
 charged_is w Sms n = refl
 
-pub charged_kinds : (w : Location) (k : Kind) (n : ℕ) → AtMost (charged_units w k n) (with_seconds (only k n) (charged_units w k n).outgoing)
+pub charged_kinds : (w : Option Place) (k : Kind) (n : ℕ) → AtMost (charged_units w k n) (with_seconds (only k n) (charged_units w k n).outgoing)
 unfolding charged_units charged_as
 charged_kinds w Data n = omega arith
 charged_kinds w Outgoing n = omega arith
 charged_kinds w Incoming n = omega arith
 charged_kinds w Sms n = omega arith
 
-pub billable_bounded : (w : Location) (u : Units) → AtMost (billable w u) u
+pub billable_bounded : (w : Option Place) (u : Units) → AtMost (billable w u) u
 unfolding billable
-billable_bounded Nowhere u = omega arith
-billable_bounded (At Home) u = omega arith
-billable_bounded (At Zone) u = omega arith
-billable_bounded (At Elsewhere) u = omega arith
+billable_bounded None u = omega arith
+billable_bounded (Some Home) u = omega arith
+billable_bounded (Some Zone) u = omega arith
+billable_bounded (Some Elsewhere) u = omega arith
 
-pub roaming_bounded : (w : Location) (u : Units) → AtMost (roaming w u) u
+pub roaming_bounded : (w : Option Place) (u : Units) → AtMost (roaming w u) u
 unfolding roaming
-roaming_bounded Nowhere u = omega arith
-roaming_bounded (At Home) u = omega arith
-roaming_bounded (At Zone) u = omega arith
-roaming_bounded (At Elsewhere) u = omega arith
+roaming_bounded None u = omega arith
+roaming_bounded (Some Home) u = omega arith
+roaming_bounded (Some Zone) u = omega arith
+roaming_bounded (Some Elsewhere) u = omega arith
 
 pub billed_of_bounded : (p : Plan) (h : ℕ) (u : Units) → AtMost (billed_of p h u) u
 unfolding billed_of
@@ -89,7 +70,7 @@ part_bounded Clear x n h = h
 part_bounded (Warned k) x n h = h
 part_bounded Surcharged x n h = omega arith
 
-surcharged_bounded : (s : Services) (l : Allowance) (r : ℕ) (z : Units) → AtMost (surcharged_units s l r z) z
+surcharged_bounded : (s : Services) (l : Option ℕ) (r : ℕ) (z : Units) → AtMost (surcharged_units s l r z) z
 unfolding surcharged_units
 surcharged_bounded s l r z = record {
   kb = part_bounded s.internet _ _ (after_allowance_bounded l r z.kb);
@@ -101,18 +82,3 @@ surcharged_bounded s l r z = record {
 pub newly_bounded : (a : State) (c : Units) → AtMost (newly_surcharged a c) c
 unfolding newly_surcharged
 newly_bounded a c = omega (arith, roaming_bounded a.place c, surcharged_bounded a.services a.quota.allowance a.quota.roamed (roaming a.place c))
-
--- the tests that the code makes
-pub billable_is : (w : Location) (u : Units) → cond (bears w) u zero_units ≡ billable w u
-unfolding billable
-billable_is Nowhere u = refl
-billable_is (At Home) u = refl
-billable_is (At Zone) u = refl
-billable_is (At Elsewhere) u = refl
-
-pub roaming_is : (w : Location) (u : Units) → cond (in_zone w) u zero_units ≡ roaming w u
-unfolding roaming
-roaming_is Nowhere u = refl
-roaming_is (At Home) u = refl
-roaming_is (At Zone) u = refl
-roaming_is (At Elsewhere) u = refl

@@ -10,8 +10,6 @@ use Rattle.tariff.specs.declared.Place.TheVariants.{Home, Zone, Elsewhere}
 use Rattle.tariff.specs.Units.{zero_units, only, AtMost}
 use Rattle.tariff.proofs.Tests.{and-false}
 use Rattle.tariff.proofs.ChargeLaws.{home_charges_grow, surcharges_grow}
-use Rattle.presence.specs.declared.Location.{Location}
-use Rattle.presence.specs.declared.Location.TheVariants.{Nowhere, At}
 use Rattle.state.specs.declared.State.{State}
 use Rattle.state.specs.Moves.{enters, registered, renews, topped, turns_month, next_state_of, LimitsKept}
 use Rattle.state.specs.Use.{charged_as, charged_units, billable, roaming, billed_after, newly_surcharged}
@@ -21,35 +19,37 @@ use Rattle.state.specs.Claims.{UsesAddUp, FirstHalfMinute, FreeUse}
 use Rattle.state.proofs.Adding.{spent_adds}
 use Rattle.state.proofs.Bounds.{billed_of_bounded, newly_bounded}
 use Rattle.state.proofs.Soundness.{charges_tell}
+use Rattle.std.specs.Prelude.{Option, Some, None}
+use Rattle.tariff.specs.declared.Place.{Place}
 
 -- uses add up where the charges are as worked out
 pub uses_add_up : UsesAddUp
 uses_add_up a u c v d h = spent_adds a u c v d (charges_tell a h).worked
 
 -- what a record is charged for, case by case
-short_calls : (n : ℕ) → n ≤ 30 → charged_units (At Zone) Outgoing n ≡ only Outgoing 30
+short_calls : (n : ℕ) → n ≤ 30 → charged_units (Some Zone) Outgoing n ≡ only Outgoing 30
 unfolding charged_units charged_as
 short_calls n h = let e : max n 30 ≡ 30 = omega arith in ap (only Outgoing) e
 
-long_calls : (n : ℕ) → 30 ≤ n → charged_units (At Zone) Outgoing n ≡ only Outgoing n
+long_calls : (n : ℕ) → 30 ≤ n → charged_units (Some Zone) Outgoing n ≡ only Outgoing n
 unfolding charged_units charged_as
 long_calls n h = let e : max n 30 ≡ n = omega arith in ap (only Outgoing) e
 
-other_kinds : (w : Location) (k : Kind) (n : ℕ) → (k ≡ Outgoing → ⊥) → charged_units w k n ≡ only k n
+other_kinds : (w : Option Place) (k : Kind) (n : ℕ) → (k ≡ Outgoing → ⊥) → charged_units w k n ≡ only k n
 unfolding charged_units charged_as
 other_kinds w Data n h = refl
 other_kinds w Outgoing n h = absurd (h refl)
 other_kinds w Incoming n h = refl
 other_kinds w Sms n h = refl
 
-outgoing_as_spoken : (w : Location) (n : ℕ) → (w ≡ At Zone → ⊥) → charged_units w Outgoing n ≡ only Outgoing n
+outgoing_as_spoken : (w : Option Place) (n : ℕ) → (w ≡ Some Zone → ⊥) → charged_units w Outgoing n ≡ only Outgoing n
 unfolding charged_units charged_as
-outgoing_as_spoken Nowhere n h = refl
-outgoing_as_spoken (At Home) n h = refl
-outgoing_as_spoken (At Zone) n h = absurd (h refl)
-outgoing_as_spoken (At Elsewhere) n h = refl
+outgoing_as_spoken None n h = refl
+outgoing_as_spoken (Some Home) n h = refl
+outgoing_as_spoken (Some Zone) n h = absurd (h refl)
+outgoing_as_spoken (Some Elsewhere) n h = refl
 
-other_places : (w : Location) (k : Kind) (n : ℕ) → (w ≡ At Zone → ⊥) → charged_units w k n ≡ only k n
+other_places : (w : Option Place) (k : Kind) (n : ℕ) → (w ≡ Some Zone → ⊥) → charged_units w k n ≡ only k n
 unfolding charged_units charged_as
 other_places w Data n h = refl
 other_places w Outgoing n h = outgoing_as_spoken w n h
@@ -60,12 +60,12 @@ pub first_half_minute : FirstHalfMinute
 first_half_minute = record { short_calls = short_calls; long_calls = long_calls; other_kinds = other_kinds; other_places = other_places }
 
 -- outside the zone a use has no zone units, so none of its units bear a surcharge
-no_zone_units : (w : Location) (c : Units) → (w ≡ At Zone → ⊥) → roaming w c ≡ roaming w zero_units
+no_zone_units : (w : Option Place) (c : Units) → (w ≡ Some Zone → ⊥) → roaming w c ≡ roaming w zero_units
 unfolding roaming
-no_zone_units Nowhere c h = refl
-no_zone_units (At Home) c h = refl
-no_zone_units (At Zone) c h = absurd (h refl)
-no_zone_units (At Elsewhere) c h = refl
+no_zone_units None c h = refl
+no_zone_units (Some Home) c h = refl
+no_zone_units (Some Zone) c h = absurd (h refl)
+no_zone_units (Some Elsewhere) c h = refl
 
 -- units of which there is at most none
 none : (u : Units) → AtMost u zero_units → u ≡ zero_units
@@ -76,11 +76,11 @@ none u h =
     let sms : u.sms ≡ 0 = omega arith in
     λ i. record { kb = kb i; outgoing = outgoing i; incoming = incoming i; sms = sms i }
 
-outside : (a : State) (c : Units) → (a.place ≡ At Zone → ⊥) → newly_surcharged a c ≡ zero_units
+outside : (a : State) (c : Units) → (a.place ≡ Some Zone → ⊥) → newly_surcharged a c ≡ zero_units
 unfolding newly_surcharged
 outside a c h = rw (no_zone_units a.place c h) (none _ (newly_bounded a zero_units))
 
-elsewhere : (a : State) (c : Units) → charges_sound a ≡ true → a.place ≡ At Elsewhere → cost a c ≡ 0
+elsewhere : (a : State) (c : Units) → charges_sound a ≡ true → a.place ≡ Some Elsewhere → cost a c ≡ 0
 unfolding cost home_after extra_after billed_after basis_after billable
 elsewhere a c h e =
     let w = (charges_tell a h).worked in
@@ -96,7 +96,7 @@ pub free_use : FreeUse
 free_use = record { elsewhere = elsewhere; outside = outside }
 
 -- who is in the zone does not enter it
-again : (a : State) → a.place ≡ At Zone → (registered a Zone).quota ≡ a.quota
+again : (a : State) → a.place ≡ Some Zone → (registered a Zone).quota ≡ a.quota
 unfolding registered enters
 again a e = rw (e, and-false) refl
 

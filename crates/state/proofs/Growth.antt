@@ -5,31 +5,30 @@ use native.Mathlib.Omega.{arith}
 use Rattle.tariff.specs.declared.Units.{Units}
 use Rattle.tariff.specs.declared.Place.TheVariants.{Home, Zone, Elsewhere}
 use Rattle.tariff.specs.declared.Plan.{Plan}
-use Rattle.tariff.specs.declared.Allowance.{Allowance}
 use Rattle.tariff.specs.Units.{AtMost}
 use Rattle.tariff.specs.Caps.{built_in, caps_on}
 use Rattle.tariff.proofs.ChargeLaws.{billed_grows, after_allowance_grows, home_charges_grow, surcharges_grow}
-use Rattle.presence.specs.declared.Location.{Location}
-use Rattle.presence.specs.declared.Location.TheVariants.{Nowhere, At}
 use Rattle.presence.specs.declared.ServiceState.{ServiceState}
 use Rattle.presence.specs.declared.ServiceState.TheVariants.{Clear, Warned, Surcharged}
 use Rattle.presence.specs.declared.Services.{Services}
 use Rattle.state.specs.declared.State.{State}
 use Rattle.state.specs.Use.{billable, roaming, billed_of, surcharged_of, surcharged_units, billed_after, newly_surcharged, basis_after, home_after, extra_after, cost}
+use Rattle.std.specs.Prelude.{Option, Some, None}
+use Rattle.tariff.specs.declared.Place.{Place}
 
-billable_grows : (w : Location) (u v : Units) → AtMost u v → AtMost (billable w u) (billable w v)
+billable_grows : (w : Option Place) (u v : Units) → AtMost u v → AtMost (billable w u) (billable w v)
 unfolding billable
-billable_grows Nowhere u v h = omega arith
-billable_grows (At Home) u v h = h
-billable_grows (At Zone) u v h = h
-billable_grows (At Elsewhere) u v h = omega arith
+billable_grows None u v h = omega arith
+billable_grows (Some Home) u v h = h
+billable_grows (Some Zone) u v h = h
+billable_grows (Some Elsewhere) u v h = omega arith
 
-roaming_grows : (w : Location) (u v : Units) → AtMost u v → AtMost (roaming w u) (roaming w v)
+roaming_grows : (w : Option Place) (u v : Units) → AtMost u v → AtMost (roaming w u) (roaming w v)
 unfolding roaming
-roaming_grows Nowhere u v h = omega arith
-roaming_grows (At Home) u v h = omega arith
-roaming_grows (At Zone) u v h = h
-roaming_grows (At Elsewhere) u v h = omega arith
+roaming_grows None u v h = omega arith
+roaming_grows (Some Home) u v h = omega arith
+roaming_grows (Some Zone) u v h = h
+roaming_grows (Some Elsewhere) u v h = omega arith
 
 part_grows : (s : ServiceState) (x y m n : ℕ) → x ≤ y → m ≤ n → surcharged_of s x m ≤ surcharged_of s y n
 unfolding surcharged_of
@@ -41,7 +40,7 @@ billed_of_grows : (p : Plan) (h : ℕ) (u v : Units) → AtMost u v → AtMost (
 unfolding billed_of
 billed_of_grows p h u v l = omega (arith, billed_grows p.form p.volume h u.kb v.kb l.kb, l)
 
-surcharged_grows : (s : Services) (l : Allowance) (r : ℕ) (u v : Units) → AtMost u v → AtMost (surcharged_units s l r u) (surcharged_units s l r v)
+surcharged_grows : (s : Services) (l : Option ℕ) (r : ℕ) (u v : Units) → AtMost u v → AtMost (surcharged_units s l r u) (surcharged_units s l r v)
 unfolding surcharged_units
 surcharged_grows s l r u v h = record {
   kb = part_grows s.internet _ _ _ _ (after_allowance_grows l r _ _ h.kb) h.kb;

@@ -5,3 +5,4 @@ pub mod Soundness
 pub mod Billing
 pub mod Verdicts
 pub mod Claimed
+pub mod Caps

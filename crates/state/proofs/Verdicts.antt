@@ -12,42 +12,45 @@ use Rattle.tariff.specs.Tests.{between, verdict_of}
 use Rattle.tariff.specs.Units.{each, ◌⊕◌, only, of_kind, AtMost}
 use Rattle.calendar.proofs.Laws.{or_left, or_right}
 use Rattle.tariff.proofs.Tests.{and_left, and_right}
-use Rattle.presence.specs.declared.Location.{Location}
 use Rattle.presence.specs.Day.{is_placed}
 use Rattle.presence.specs.Log.{lifetime_most}
 use Rattle.state.specs.declared.State.{State}
 use Rattle.state.specs.declared.StateApplied.{StateApplied}
-use Rattle.state.specs.declared.Answer.TheVariants.{Charged, Refused}
+use Rattle.state.specs.declared.Outcome.TheVariants.{Charged}
+use Rattle.tariff.specs.declared.Refusal.{Refusal}
+use Rattle.tariff.specs.declared.Refusal.TheVariants.{Unplaced, UnitCount, MeterFull, OverCredit}
 use Rattle.state.specs.Use.{charged_as, charged_units, cost, spent, charge_of}
 use Rattle.state.specs.Sound.{chargeable, counters_sound}
 use Rattle.state.specs.Reasons.{overfills, use_reasons, use_state}
 use Rattle.state.specs.Needs.{Ready}
 use Rattle.state.proofs.Bounds.{charged_few}
 use Rattle.state.proofs.Soundness.{Counters, counters_tell}
+use Rattle.std.specs.Prelude.{Option, Ok, Err}
+use Rattle.tariff.specs.declared.Place.{Place}
 
-abbrev refused : ℕ → State → StateApplied
-refused r a = record { answer = Refused r; state = a }
+abbrev refused : Refusal → State → StateApplied
+refused r a = record { answer = Err r; state = a }
 
 module _ (a : State) (k : Kind) (n : ℕ) where
-  pub used_3 : is_placed a.place ≡ false → refused 3 a ≡ use_state a k n
+  pub used_3 : is_placed a.place ≡ false → refused Unplaced a ≡ use_state a k n
   unfolding use_state use_reasons verdict_of
   used_3 p = rw p refl
 
-  pub used_4 : is_placed a.place ≡ true → between 1 n 1000000000 ≡ false → refused 4 a ≡ use_state a k n
+  pub used_4 : is_placed a.place ≡ true → between 1 n 1000000000 ≡ false → refused UnitCount a ≡ use_state a k n
   unfolding use_state use_reasons verdict_of
   used_4 p e = rw (p, e) refl
 
-  pub used_5 : is_placed a.place ≡ true → between 1 n 1000000000 ≡ true → overfills a k n ≡ true → refused 5 a ≡ use_state a k n
+  pub used_5 : is_placed a.place ≡ true → between 1 n 1000000000 ≡ true → overfills a k n ≡ true → refused MeterFull a ≡ use_state a k n
   unfolding use_state use_reasons verdict_of
   used_5 p e o = rw (p, e, o) refl
 
   pub used_6 : is_placed a.place ≡ true → between 1 n 1000000000 ≡ true → overfills a k n ≡ false → a.money.credit < cost a (charged_units a.place k n)
-      → refused 6 a ≡ use_state a k n
+      → refused OverCredit a ≡ use_state a k n
   unfolding use_state use_reasons verdict_of
   used_6 p e o m = rw (p, e, o, lt-ltb _ _ m) refl
 
   pub used_yes : is_placed a.place ≡ true → between 1 n 1000000000 ≡ true → overfills a k n ≡ false → cost a (charged_units a.place k n) ≤ a.money.credit
-      → record { answer = Charged (charge_of a k (charged_units a.place k n)); state = spent a (only k n) (charged_units a.place k n) } ≡ use_state a k n
+      → record { answer = Ok (Charged (charge_of a k (charged_units a.place k n))); state = spent a (only k n) (charged_units a.place k n) } ≡ use_state a k n
   unfolding use_state use_reasons verdict_of
   used_yes p e o m = rw (p, e, o, le-ltb _ _ m) refl
 
@@ -62,10 +65,6 @@ module _ (a : State) (k : Kind) (n : ℕ) where
       let u = ltb 1000000000000 (of_kind k a.meters.lifetime + n) in
       let s = ltb 1000000000000 (a.meters.chargedseconds + (charged_units a.place k n).outgoing) in
       record { units = ltb-false _ _ (or_left u s o); seconds = ltb-false _ _ (or_right u s o) }
-
-  pub room_enough : Room → overfills a k n ≡ false
-  unfolding overfills
-  room_enough r = rw (le-ltb _ _ r.units, le-ltb _ _ r.seconds) refl
 
 few_only : (k : Kind) (n : ℕ) → n ≤ 1000000000 → AtMost (only k n) (each 1000000000 1000000000 1000000000 1000000000)
 few_only Data n h = omega arith
@@ -86,7 +85,7 @@ room_charged a Outgoing n f r = omega (arith, f.lifetime_ok, r.seconds)
 room_charged a Incoming n f r = omega (arith, f.lifetime_ok, f.charged_ok, r.units)
 room_charged a Sms n f r = omega (arith, f.lifetime_ok, f.charged_ok, r.units)
 
-few_charged : (w : Location) (k : Kind) (n : ℕ) → n ≤ 1000000000 → AtMost (charged_units w k n) (each 1000000000 1000000000 1000000000 1000000000)
+few_charged : (w : Option Place) (k : Kind) (n : ℕ) → n ≤ 1000000000 → AtMost (charged_units w k n) (each 1000000000 1000000000 1000000000 1000000000)
 unfolding charged_units
 few_charged w k n h = few_only k (charged_as w k n) (charged_few w k n h)
 

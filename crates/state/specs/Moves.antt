@@ -2,18 +2,15 @@
 -- register-1, register-2, topup-1, topup-2, day-3). Choices (docs/DECISIONS.md, "Account"): month's first day, prepaid;
 -- order within a day change; which cap turns the month; registering in the zone while there; leaving the zone; top-up
 -- outside the zone. Assumes nothing.
-use Rattle.std.specs.Prelude.{ℕ, ◌+◌, min, ◌≡◌, Bool, true, false, not, cond, ◌&&◌, List}
+use Rattle.std.specs.Prelude.{ℕ, ◌+◌, min, ◌≡◌, Bool, true, false, not, cond, ◌&&◌, List, Option, Some, None}
 use Rattle.calendar.specs.Calendar.{starts_month}
 use Rattle.tariff.specs.declared.Place.{Place}
 use Rattle.tariff.specs.declared.Place.TheVariants.{Zone}
 use Rattle.tariff.specs.declared.Form.{Form}
 use Rattle.tariff.specs.declared.Plan.{Plan}
-use Rattle.tariff.specs.declared.Allowance.{Allowance}
 use Rattle.tariff.specs.Units.{zero_units}
 use Rattle.tariff.specs.Caps.{built_in, caps_on}
 use Rattle.tariff.specs.Plan.{is_prepaid, credit_allowance, plan_allowance}
-use Rattle.presence.specs.declared.Location.{Location}
-use Rattle.presence.specs.declared.Location.TheVariants.{Nowhere, At}
 use Rattle.presence.specs.declared.ServiceState.TheVariants.{Clear}
 use Rattle.presence.specs.declared.Services.{Services}
 use Rattle.presence.specs.declared.Day.{Day}
@@ -43,7 +40,7 @@ unfoldable pub opened_state : Plan → State
 opened_state p = record {
   plan = p;
   day = p.start;
-  place = Nowhere;
+  place = None;
   money = record { credit = 0; paid = 0; homecharges = 0; surcharges = 0 };
   meters = no_meters;
   quota = record { monthly = 0; roamed = 0; allowance = plan_allowance p (caps_on built_in p.start).kb };
@@ -53,11 +50,11 @@ opened_state p = record {
 }
 
 -- register-2, mistake-5: a prepaid account comes into the zone
-unfoldable pub enters : Form → Location → Place → Bool
-enters f from to = is_prepaid f && (not (in_zone from) && in_zone (At to))
+unfoldable pub enters : Form → Option Place → Place → Bool
+enters f from to = is_prepaid f && (not (in_zone from) && in_zone (Some to))
 
 -- register-2, topup-2: where b holds, a new L, and R counts anew; H stays
-abbrev pub renewed_if : Bool → Allowance → Quota → Quota
+abbrev pub renewed_if : Bool → Option ℕ → Quota → Quota
 renewed_if b l q = record { monthly = q.monthly; roamed = cond b 0 q.roamed; allowance = cond b l q.allowance }
 
 -- register-1, register-2, mistake-5: the account registered at the place
@@ -65,18 +62,18 @@ unfoldable pub registered : State → Place → State
 registered a p = record {
   plan = a.plan;
   day = a.day;
-  place = At p;
+  place = Some p;
   money = a.money;
   meters = a.meters;
   quota = renewed_if (enters a.plan.form a.place p)
       (credit_allowance a.money.credit (caps_on built_in a.day).kb) a.quota;
-  today = mark_day (At p) a.today;
+  today = mark_day (Some p) a.today;
   logged = a.logged;
   services = a.services;
 }
 
 -- topup-2: a prepaid account is topped up in the zone
-unfoldable pub renews : Form → Location → Bool
+unfoldable pub renews : Form → Option Place → Bool
 renews f w = is_prepaid f && in_zone w
 
 -- topup-1: n points more of credit and paid in
@@ -108,7 +105,7 @@ unfoldable pub turns_month : Plan → ℕ → Bool
 turns_month p d = not (is_prepaid p.form) && starts_month d
 
 -- limit-7: where b holds, a new L, and H and R count anew
-abbrev pub turned_if : Bool → Allowance → Quota → Quota
+abbrev pub turned_if : Bool → Option ℕ → Quota → Quota
 turned_if b l q = record {
   monthly = cond b 0 q.monthly;
   roamed = cond b 0 q.roamed;
@@ -133,7 +130,7 @@ next_state_of a ds = record {
 -- register-2, topup-2, limit-7, mistake-4, mistake-5, law: what leaves H, R and L as they are: registering again in the
 -- zone, a bundle's top-up, a prepaid account's day change
 pub record LimitsKept : Type 0 where
-  pub again : (a : State) → a.place ≡ At Zone → (registered a Zone).quota ≡ a.quota
+  pub again : (a : State) → a.place ≡ Some Zone → (registered a Zone).quota ≡ a.quota
   pub bundle_topped : (a : State) (n : ℕ) → is_prepaid a.plan.form ≡ false → (topped a n).quota ≡ a.quota
   pub prepaid_month : (a : State) (ds : List Day) → is_prepaid a.plan.form ≡ true
       → (next_state_of a ds).quota ≡ a.quota

@@ -1,12 +1,10 @@
 -- Aids to `state`: what inner functions ask, so that their sums stay within the machine's numbers. What recurs here of
 -- use-2 (`bears`) is tied to it by the contract of `billable_of`. Assumes nothing.
-use Rattle.std.specs.Prelude.{◌+◌, ◌≤◌, ◌<◌, min, ◌≡◌, Bool, true, false, List}
+use Rattle.std.specs.Prelude.{◌+◌, ◌≤◌, ◌<◌, min, ◌≡◌, Bool, true, false, List, Option, Some, None}
 use Rattle.tariff.specs.declared.Units.{Units}
 use Rattle.tariff.specs.declared.Place.TheVariants.{Home, Zone, Elsewhere}
 use Rattle.tariff.specs.Units.{each, ◌⊕◌, AtMost}
 use Rattle.tariff.specs.declared.Plan.{Plan}
-use Rattle.presence.specs.declared.Location.{Location}
-use Rattle.presence.specs.declared.Location.TheVariants.{Nowhere, At}
 use Rattle.presence.specs.declared.Day.{Day}
 use Rattle.presence.specs.Day.{day_units}
 use Rattle.presence.specs.Log.{units_over, lifetime_most}
@@ -16,13 +14,14 @@ use Rattle.tariff.specs.Charges.{counted_kb}
 use Rattle.state.specs.Use.{billable, roaming, billed_after, newly_surcharged, basis_after}
 use Rattle.state.specs.Use.{home_after, extra_after, cost}
 use Rattle.state.specs.Sound.{chargeable, counters_sound, charges_sound}
+use Rattle.tariff.specs.declared.Place.{Place}
 
 -- aid: a place where the home price bears
-abbrev pub bears : Location → Bool
-bears Nowhere = false
-bears (At Home) = true
-bears (At Zone) = true
-bears (At Elsewhere) = false
+abbrev pub bears : Option Place → Bool
+bears None = false
+bears (Some Home) = true
+bears (Some Zone) = true
+bears (Some Elsewhere) = false
 
 -- aid: what a use charged as c makes of the sums
 unfoldable pub bill_of : State → Units → Bill

@@ -1,10 +1,8 @@
 -- When an account is sound, but for its log (sound-1 to sound-6, sound-8 to sound-11, half-6). Choices
 -- (docs/DECISIONS.md, "Soundness" and "Account"): extent; the plan in a sound account; charged and spoken seconds in a
 -- sound account. Law: every list of calls keeps it (`SoundStaysSound`). Assumes nothing.
-use Rattle.std.specs.Prelude.{◌+◌, ◌-◌, min, Bool, true, [], ◌∷◌, leb, eqb}
+use Rattle.std.specs.Prelude.{ℕ, ◌+◌, ◌-◌, min, Bool, true, [], ◌∷◌, leb, eqb, Option, Some, None}
 use Rattle.tariff.specs.declared.Units.{Units}
-use Rattle.tariff.specs.declared.Allowance.{Allowance}
-use Rattle.tariff.specs.declared.Allowance.TheVariants.{NoLimit, Kilobytes}
 use Rattle.tariff.specs.Tests.{all, is_accepted}
 use Rattle.tariff.specs.Units.{each, ◌⊗◌, fits}
 use Rattle.tariff.specs.Plan.{plan_verdict}
@@ -16,9 +14,9 @@ use Rattle.state.specs.declared.State.{State}
 use Rattle.state.specs.Use.{with_seconds}
 
 -- sound-9: L is none or within its limit
-abbrev pub allowance_fits : Allowance → Bool
-allowance_fits NoLimit = true
-allowance_fits (Kilobytes l) = leb l 2000000000000000
+abbrev pub allowance_fits : Option ℕ → Bool
+allowance_fits None = true
+allowance_fits (Some l) = leb l 2000000000000000
 
 -- sound-11: a warning is at most 14 day changes old
 abbrev pub warning_fits : ServiceState → Bool

@@ -2,35 +2,32 @@
 -- half-7, limit-1, limit-2). A use leaves the log as it is. Choices (docs/DECISIONS.md, "Account"): home price and
 -- surcharge on one kB; use elsewhere; notice; refusal 6; charged seconds; a record is rounded up; units charged, in the
 -- answer. Assumes nothing.
-use Rattle.std.specs.Prelude.{ℕ, ◌+◌, ◌-◌, max, Bool, false, cond, ◌&&◌, leb, ltb}
+use Rattle.std.specs.Prelude.{ℕ, ◌+◌, ◌-◌, max, Bool, false, cond, ◌&&◌, leb, ltb, Option, Some, None}
 use Rattle.tariff.specs.declared.Units.{Units}
 use Rattle.tariff.specs.declared.Kind.{Kind}
 use Rattle.tariff.specs.declared.Kind.TheVariants.{Data, Outgoing, Incoming, Sms}
 use Rattle.tariff.specs.declared.Place.TheVariants.{Home, Zone, Elsewhere}
 use Rattle.tariff.specs.declared.Plan.{Plan}
-use Rattle.tariff.specs.declared.Allowance.{Allowance}
-use Rattle.tariff.specs.declared.Allowance.TheVariants.{NoLimit, Kilobytes}
 use Rattle.tariff.specs.Units.{each, zero_units, ◌⊕◌, ◌⊗◌, only, of_kind}
 use Rattle.tariff.specs.Caps.{built_in, caps_on}
 use Rattle.tariff.specs.Charges.{billed_kb, counted_kb, after_allowance, home_charges_of, surcharges_of}
-use Rattle.presence.specs.declared.Location.{Location}
-use Rattle.presence.specs.declared.Location.TheVariants.{Nowhere, At}
 use Rattle.presence.specs.declared.ServiceState.{ServiceState}
 use Rattle.presence.specs.declared.ServiceState.TheVariants.{Clear, Warned, Surcharged}
 use Rattle.presence.specs.declared.Services.{Services}
 use Rattle.presence.specs.Day.{in_zone, mark_day, add_day}
 use Rattle.state.specs.declared.State.{State}
 use Rattle.state.specs.declared.Charge.{Charge}
+use Rattle.tariff.specs.declared.Place.{Place}
 
 -- half-1, half-2: how many units a record of n pays for. Law: case by case (`FirstHalfMinute`)
-unfoldable pub charged_as : Location → Kind → ℕ → ℕ
+unfoldable pub charged_as : Option Place → Kind → ℕ → ℕ
 charged_as w Data n = n
 charged_as w Outgoing n = cond (in_zone w) (max n 30) n
 charged_as w Incoming n = n
 charged_as w Sms n = n
 
 -- half-1, half-2: the same as units, none of other kinds
-unfoldable pub charged_units : Location → Kind → ℕ → Units
+unfoldable pub charged_units : Option Place → Kind → ℕ → Units
 charged_units w k n = only k (charged_as w k n)
 
 -- half-6: units with s for their outgoing seconds
@@ -38,18 +35,18 @@ abbrev pub with_seconds : Units → ℕ → Units
 with_seconds u s = each u.kb s u.incoming u.sms
 
 -- use-2, use-10: the units that the home price can bear on
-unfoldable pub billable : Location → Units → Units
-billable Nowhere u = zero_units
-billable (At Home) u = u
-billable (At Zone) u = u
-billable (At Elsewhere) u = zero_units
+unfoldable pub billable : Option Place → Units → Units
+billable None u = zero_units
+billable (Some Home) u = u
+billable (Some Zone) u = u
+billable (Some Elsewhere) u = zero_units
 
 -- use-7, use-8, use-10, limit-1: the zone units of a use
-unfoldable pub roaming : Location → Units → Units
-roaming Nowhere u = zero_units
-roaming (At Home) u = zero_units
-roaming (At Zone) u = u
-roaming (At Elsewhere) u = zero_units
+unfoldable pub roaming : Option Place → Units → Units
+roaming None u = zero_units
+roaming (Some Home) u = zero_units
+roaming (Some Zone) u = u
+roaming (Some Elsewhere) u = zero_units
 
 -- use-3, use-4, use-5: priced units, after h kB of the month
 unfoldable pub billed_of : Plan → ℕ → Units → Units
@@ -67,7 +64,7 @@ surcharged_of (Warned k) past n = past
 surcharged_of Surcharged past n = n
 
 -- use-7, use-8: the surcharged ones of zone units z, after r zone kB
-unfoldable pub surcharged_units : Services → Allowance → ℕ → Units → Units
+unfoldable pub surcharged_units : Services → Option ℕ → ℕ → Units → Units
 surcharged_units s l r z = record {
   kb = surcharged_of s.internet (after_allowance l r z.kb) z.kb;
   outgoing = surcharged_of s.calls 0 z.outgoing;
@@ -131,9 +128,9 @@ spent a u c = record {
 }
 
 -- use-15: R was below L and is not any more
-abbrev pub notice_of : Allowance → ℕ → ℕ → Bool
-notice_of NoLimit before now = false
-notice_of (Kilobytes l) before now = ltb before l && leb l now
+abbrev pub notice_of : Option ℕ → ℕ → ℕ → Bool
+notice_of None before now = false
+notice_of (Some l) before now = ltb before l && leb l now
 
 -- use-14, use-15, half-7: what a use answers
 unfoldable pub charge_of : State → Kind → Units → Charge

@@ -4,152 +4,154 @@ ghost use Rattle.tariff.specs.Tests.{between};
 ghost use Rattle.tariff.specs.Units.{◌⊕◌, AtMost};
 ghost use Rattle.presence.specs.Log.{lifetime_most};
 ghost use Rattle.state.specs.Use.{charged_as, charged_units, billable, roaming, billed_of, surcharged_of};
-ghost use Rattle.state.specs.Use.{surcharged_units, spent, notice_of, charge_of};
+ghost use Rattle.state.specs.Use.{surcharged_units, billed_after, newly_surcharged, basis_after, spent, notice_of, charge_of};
 ghost use Rattle.state.specs.Sound.{counters_sound};
 ghost use Rattle.state.specs.Reasons.{overfills, use_state};
 ghost use Rattle.state.specs.Needs.{bears, bill_of, Ready, Steady, Spends};
 
-use super::{Answer, Bill, Charge, Meters, State, StateApplied, choice};
+use super::{Bill, Charge, Meters, Outcome, State, StateApplied};
 use presence::{Location, ServiceState, Services};
-use tariff::{Allowance, Kind, Place, Plan, Units};
+use tariff::{Allowance, Kind, Place, Plan, Refusal, Units};
 
 // As how many units a record of n units is charged: an outgoing one in the zone as 30 at least.
+#[tactic(auto, unfolding(crate::specs::Use::charged_as))]
 fn charged_as(w: Location, k: Kind, n: u64) -> u64
     ensures { result ≡ charged_as w k n }
 {
-    let zone = presence::days::zone_at(w);
     match k {
-        Kind::Data => n,
-        Kind::Outgoing => choice::pick(zone, choice::greater(n, 30), n),
-        Kind::Incoming => n,
-        Kind::Sms => n,
+        Kind::Outgoing if presence::days::zone_at(w) => n.max(30),
+        _ => n,
     }
 }
 
 // The units that a record of n units is charged for.
+#[tactic(auto, unfolding(crate::specs::Use::charged_units))]
 fn charged_units(w: Location, k: Kind, n: u64) -> Units
     ensures { result ≡ charged_units w k n }
 {
-    let m = charged_as(w, k, n);
-    tariff::amounts::only_of(k, m)
-}
-
-fn bears_at(p: Place) -> bool
-    ensures { result ≡ bears (Location.At p) }
-{
-    match p {
-        Place::Home => true,
-        Place::Zone => true,
-        Place::Elsewhere => false,
-    }
+    tariff::amounts::only_of(k, charged_as(w, k, n))
 }
 
 // Does the home price bear there?
 pub fn bears_home_price(w: Location) -> bool
     ensures { result ≡ bears w }
 {
-    match w {
-        Location::Nowhere => false,
-        Location::At(p) => bears_at(p),
-    }
+    matches!(w, Some(Place::Home | Place::Zone))
 }
 
+#[tactic(auto, unfolding(crate::specs::Use::billable))]
 fn billable_of(w: Location, u: Units) -> Units
     ensures { result ≡ billable w u }
 {
-    let none = Units {
-        kb: 0,
-        outgoing: 0,
-        incoming: 0,
-        sms: 0,
-    };
-    choice::pick_units(bears_home_price(w), u, none)
-}
-
-fn roaming_of(w: Location, u: Units) -> Units
-    ensures { result ≡ roaming w u }
-{
-    let none = Units {
-        kb: 0,
-        outgoing: 0,
-        incoming: 0,
-        sms: 0,
-    };
-    choice::pick_units(presence::days::zone_at(w), u, none)
-}
-
-fn billed_units(p: Plan, h: u64, u: Units) -> Units
-    ensures { result ≡ billed_of p h u }
-{
-    let form = p.form;
-    let kb = tariff::charges::billed_of(form, p.volume, h, u.kb);
-    Units {
-        kb: kb,
-        outgoing: u.outgoing,
-        incoming: 0,
-        sms: u.sms,
+    match w {
+        Some(Place::Home | Place::Zone) => u,
+        Some(Place::Elsewhere) | None => Units::default(),
     }
 }
 
+// kept: beside `billable_of`; one for both would take the test of the place, and be no shorter.
+#[tactic(auto, unfolding(crate::specs::Use::roaming))]
+fn roaming_of(w: Location, u: Units) -> Units
+    ensures { result ≡ roaming w u }
+{
+    match w {
+        Some(Place::Zone) => u,
+        Some(Place::Home | Place::Elsewhere) | None => Units::default(),
+    }
+}
+
+#[tactic(auto, unfolding(crate::specs::Use::billed_of))]
+fn billed_units(p: Plan, h: u64, u: Units) -> Units
+    ensures { result ≡ billed_of p h u }
+{
+    Units {
+        kb: tariff::charges::billed_of(p.form, p.volume, h, u.kb),
+        incoming: 0,
+        ..u
+    }
+}
+
+#[tactic(auto, unfolding(crate::specs::Use::surcharged_of))]
 fn surcharged_part(s: ServiceState, past: u64, n: u64) -> u64
     ensures { result ≡ surcharged_of s past n }
 {
     match s {
-        ServiceState::Clear => past,
-        ServiceState::Warned(_) => past,
+        ServiceState::Clear | ServiceState::Warned(_) => past,
         ServiceState::Surcharged => n,
     }
 }
 
+#[tactic(auto, unfolding(crate::specs::Use::surcharged_units))]
 fn surcharged_of(s: Services, l: Allowance, r: u64, z: Units) -> Units
     ensures { result ≡ surcharged_units s l r z }
 {
-    let internet = s.internet;
-    let calls = s.calls;
-    let messages = s.messages;
     let past = tariff::charges::past_allowance(l, r, z.kb);
-    let kb = surcharged_part(internet, past, z.kb);
-    let outgoing = surcharged_part(calls, 0, z.outgoing);
-    let incoming = surcharged_part(calls, 0, z.incoming);
-    let sms = surcharged_part(messages, 0, z.sms);
     Units {
-        kb: kb,
-        outgoing: outgoing,
-        incoming: incoming,
-        sms: sms,
+        kb: surcharged_part(s.internet, past, z.kb),
+        outgoing: surcharged_part(s.calls, 0, z.outgoing),
+        incoming: surcharged_part(s.calls, 0, z.incoming),
+        sms: surcharged_part(s.messages, 0, z.sms),
     }
 }
 
-// What a use charged as c makes of the sums.
-fn work_out(a: State, c: Units) -> Bill
-    requires { Ready a c }
-    ensures { result ≡ bill_of a c }
+// kept: that the account is ready for the charged units is a clause of three functions, which one calls in turn; a type
+// with both would be made and taken apart in it alone.
+
+// Priced units of the account after a use charged as c.
+#[tactic(auto, using(crate::proofs::Billing::billed_sum), unfolding(crate::specs::Use::billed_after))]
+fn billed_with(a: &State, c: Units) -> Units
+    requires { Ready a.now c }
+    ensures { result ≡ billed_after a.now c }
 {
-    let plan = a.plan;
-    let form = plan.form;
-    let place = a.place;
-    let quota = a.quota;
-    let allowance = quota.allowance;
-    let services = a.services;
-    let borne = billable_of(place, c);
-    let zone = roaming_of(place, c);
-    let billed = tariff::amounts::plus(a.meters.billed, billed_units(plan, a.quota.monthly, borne));
-    let fresh = surcharged_of(services, allowance, a.quota.roamed, zone);
-    let basis = tariff::amounts::plus(
+    let borne = billable_of(a.place, c);
+    tariff::amounts::plus(
+        a.meters.billed,
+        billed_units(a.plan, a.quota.monthly, borne),
+    )
+}
+
+// The units of such a use that bear a surcharge.
+#[tactic(auto, unfolding(crate::specs::Use::newly_surcharged))]
+fn surcharged_now(a: &State, c: Units) -> Units
+    ensures { result ≡ newly_surcharged a.now c }
+{
+    surcharged_of(
+        a.services,
+        a.quota.allowance,
+        a.quota.roamed,
+        roaming_of(a.place, c),
+    )
+}
+
+// The sums of cap x units after it.
+#[tactic(auto, using(crate::proofs::Billing::basis_product, crate::proofs::Billing::basis_sum), unfolding(crate::specs::Use::basis_after))]
+fn basis_with(a: &State, c: Units) -> Units
+    requires { Ready a.now c }
+    ensures { result ≡ basis_after a.now c }
+{
+    let rate = tariff::caps::caps_of(a.day);
+    tariff::amounts::plus(
         a.meters.basis,
-        tariff::amounts::times(tariff::caps::caps_of(a.day), fresh),
-    );
-    let home = tariff::charges::home_of(plan, billed);
-    let extra = tariff::charges::surcharges_from(basis);
-    let counted = tariff::charges::counted_of(form, borne.kb);
+        tariff::amounts::times(rate, surcharged_now(a, c)),
+    )
+}
+
+// What a use charged as c makes of the sums.
+#[tactic(auto, using(crate::proofs::Billing::price_fits, crate::proofs::Billing::basis_fits), unfolding(crate::specs::Needs::bill_of, crate::specs::Use::home_after, crate::specs::Use::extra_after))]
+fn work_out(a: &State, c: Units) -> Bill
+    requires { Ready a.now c }
+    ensures { result ≡ bill_of a.now c }
+{
+    let billed = billed_with(a, c);
+    let basis = basis_with(a, c);
     Bill {
-        billed: billed,
-        fresh: fresh,
-        basis: basis,
-        home: home,
-        extra: extra,
-        counted: counted,
-        zone: zone.kb,
+        billed,
+        fresh: surcharged_now(a, c),
+        basis,
+        home: tariff::charges::home_of(a.plan, billed),
+        extra: tariff::charges::surcharges_from(basis),
+        counted: tariff::charges::counted_of(a.plan.form, billable_of(a.place, c).kb),
+        zone: roaming_of(a.place, c).kb,
     }
 }
 
@@ -158,30 +160,19 @@ fn spend(mut a: State, u: Units, c: Units, b: Bill) -> State
     requires { Spends a c b × AtMost (a.meters.lifetime ⊕ u) lifetime_most }
     ensures { result ≡ spent a u c }
 {
-    let place = a.place;
-    let lifetime = tariff::amounts::plus(a.meters.lifetime, u);
-    let surcharged = tariff::amounts::plus(a.meters.surcharged, b.fresh);
-    let today = presence::days::added(place, u, presence::days::marked(place, a.today));
-    let billed = b.billed;
-    let basis = b.basis;
-    let monthly = a.quota.monthly + b.counted;
-    let roamed = a.quota.roamed + b.zone;
-    let chargedseconds = a.meters.chargedseconds + c.outgoing;
-    let credit = a.money.credit - ((b.home - a.money.homecharges) + (b.extra - a.money.surcharges));
-    a.money.credit = credit;
+    a.money.credit -= (b.home - a.money.homecharges) + (b.extra - a.money.surcharges);
     a.money.homecharges = b.home;
     a.money.surcharges = b.extra;
-    let meters = Meters {
-        lifetime: lifetime,
-        chargedseconds: chargedseconds,
-        billed: billed,
-        surcharged: surcharged,
-        basis: basis,
+    a.meters = Meters {
+        lifetime: tariff::amounts::plus(a.meters.lifetime, u),
+        chargedseconds: a.meters.chargedseconds + c.outgoing,
+        billed: b.billed,
+        surcharged: tariff::amounts::plus(a.meters.surcharged, b.fresh),
+        basis: b.basis,
     };
-    a.meters = meters;
-    a.quota.monthly = monthly;
-    a.quota.roamed = roamed;
-    a.today = today;
+    a.quota.monthly += b.counted;
+    a.quota.roamed += b.zone;
+    a.today = presence::days::added(a.place, u, presence::days::marked(a.place, a.today));
     a
 }
 
@@ -189,8 +180,8 @@ fn notice_at(l: Allowance, before: u64, now: u64) -> bool
     ensures { result ≡ notice_of l before now }
 {
     match l {
-        Allowance::NoLimit => false,
-        Allowance::Kilobytes(m) => (before < m) & (m <= now),
+        None => false,
+        Some(m) => (before < m) & (m <= now),
     }
 }
 
@@ -199,17 +190,12 @@ fn charge_on(a: State, k: Kind, c: Units, b: Bill) -> Charge
     requires { Spends a c b }
     ensures { result ≡ charge_of a k c }
 {
-    let quota = a.quota;
-    let allowance = quota.allowance;
-    let notice = notice_at(allowance, a.quota.roamed, a.quota.roamed + b.zone);
-    let surcharged = tariff::amounts::amount(k, b.fresh);
-    let charged = tariff::amounts::amount(k, c);
     Charge {
         home: b.home - a.money.homecharges,
         extra: b.extra - a.money.surcharges,
-        surcharged: surcharged,
-        charged: charged,
-        notice: notice,
+        surcharged: tariff::amounts::amount(k, b.fresh),
+        charged: tariff::amounts::amount(k, c),
+        notice: notice_at(a.quota.allowance, a.quota.roamed, a.quota.roamed + b.zone),
     }
 }
 
@@ -221,12 +207,12 @@ pub fn within(l: u64, n: u64, h: u64) -> bool
 }
 
 // Refusal 5: would the use pass a limit, that of the lifetime units or that of the charged seconds?
+#[tactic(auto, using(crate::proofs::Verdicts::kind_most, crate::proofs::Verdicts::seconds_most), unfolding(crate::specs::Reasons::overfills))]
 fn overfills(a: State, k: Kind, n: u64) -> bool
     requires { (counters_sound a ≡ true) × (n ≤ 1000000000) }
     ensures { result ≡ overfills a k n }
 {
-    let place = a.place;
-    let c = charged_units(place, k, n);
+    let c = charged_units(a.place, k, n);
     (tariff::amounts::amount(k, a.meters.lifetime) + n > 1000000000000)
         | (a.meters.chargedseconds + c.outgoing > 1000000000000)
 }
@@ -236,38 +222,22 @@ pub fn use_of(a: State, k: Kind, n: u64) -> StateApplied
     requires { Steady a }
     ensures { result ≡ use_state a k n }
 {
-    let place = a.place;
-    if !presence::days::placed(place) {
-        return StateApplied {
-            answer: Answer::Refused(3),
-            state: a,
-        };
+    if !presence::days::placed(a.place) {
+        return super::declined(a, Refusal::Unplaced);
     }
     if !within(1, n, 1000000000) {
-        return StateApplied {
-            answer: Answer::Refused(4),
-            state: a,
-        };
+        return super::declined(a, Refusal::UnitCount);
     }
     if overfills(a, k, n) {
-        return StateApplied {
-            answer: Answer::Refused(5),
-            state: a,
-        };
+        return super::declined(a, Refusal::MeterFull);
     }
-    let c = charged_units(place, k, n);
-    let b = work_out(a, c);
+    let c = charged_units(a.place, k, n);
+    let b = work_out(&a, c);
     if (b.home - a.money.homecharges) + (b.extra - a.money.surcharges) > a.money.credit {
-        return StateApplied {
-            answer: Answer::Refused(6),
-            state: a,
-        };
+        return super::declined(a, Refusal::OverCredit);
     }
-    let charge = charge_on(a, k, c, b);
-    let u = tariff::amounts::only_of(k, n);
-    let next = spend(a, u, c, b);
     StateApplied {
-        answer: Answer::Charged(charge),
-        state: next,
+        answer: Ok(Outcome::Charged(charge_on(a, k, c, b))),
+        state: spend(a, tariff::amounts::only_of(k, n), c, b),
     }
 }

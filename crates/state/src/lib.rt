@@ -2,20 +2,18 @@
 // register-1, register-2, topup-1, topup-2, use-1 to use-15, day-3, refusal-3 to refusal-9).
 #![tactic(auto)]
 
+ghost use Rattle.std.specs.Prelude.{◌≡◌, Err};
+
 pub mod charging;
-pub mod choice;
 pub mod claims;
 pub mod moves;
 pub mod sound;
 
-ghost use Rattle.std.specs.Prelude.{◌≡◌};
-ghost use Rattle.state.specs.Reasons.{is_taken};
-
 use presence::{Day, Location, Services};
-use tariff::{Allowance, Plan, Units};
+use tariff::{Allowance, Plan, Refusal, Units};
 
 // Points: what is left, what was paid in, and what home charges and surcharges took of it.
-#[derive(Clone, Copy)]
+#[derive(Clone, Copy, Default)]
 pub struct Money {
     pub credit: u64,
     pub paid: u64,
@@ -25,7 +23,7 @@ pub struct Money {
 
 // Over the account's life: units used, with seconds as spoken; outgoing seconds as charged; priced units; surcharged
 // units; the sums of cap x surcharged units.
-#[derive(Clone, Copy)]
+#[derive(Clone, Copy, Default)]
 pub struct Meters {
     pub lifetime: Units,
     pub chargedseconds: u64,
@@ -66,15 +64,16 @@ pub struct Charge {
     pub notice: bool,
 }
 
-// What a call answers: a use its charge, Afford its number, every other call that it is done; and any call that it is
-// refused, with the number.
+// What an accepted call answers: a use its charge, Afford its number, every other call that it is done.
 #[derive(Clone, Copy)]
-pub enum Answer {
+pub enum Outcome {
     Done,
     Charged(Charge),
     UpTo(u64),
-    Refused(u64),
 }
+
+// What a call answers: that, or why it is refused.
+pub type Answer = Result<Outcome, Refusal>;
 
 // What a call answers, with all of the account but its log.
 #[derive(Clone, Copy)]
@@ -96,14 +95,12 @@ pub struct Bill {
     pub zone: u64,
 }
 
-// Is it the answer of an accepted call?
-pub fn taken(x: Answer) -> bool
-    ensures { result ≡ is_taken x }
+// What a refused call hands back: why, and the account as it was.
+pub fn declined(a: State, r: Refusal) -> StateApplied
+    ensures { result ≡ record { answer = Err r; state = a } }
 {
-    match x {
-        Answer::Done => true,
-        Answer::Charged(_) => true,
-        Answer::UpTo(_) => true,
-        Answer::Refused(_) => false,
+    StateApplied {
+        answer: Err(r),
+        state: a,
     }
 }

@@ -4,196 +4,126 @@ ghost use Rattle.std.specs.Prelude.{◌≡◌, ◌+◌, ◌-◌, ◌≤◌, ◌<
 ghost use Rattle.tariff.specs.Caps.{built_in, caps_on};
 ghost use Rattle.tariff.specs.Plan.{credit_allowance};
 ghost use Rattle.presence.specs.Log.{days_of};
-ghost use Rattle.state.specs.Moves.{no_meters, all_clear, opened_state, enters, renews, registered, topped};
-ghost use Rattle.state.specs.Moves.{next_state_of};
+ghost use Rattle.state.specs.Moves.{opened_state, registered, topped, renewed_if, turned_if, next_state_of};
 ghost use Rattle.state.specs.Needs.{Turns, Payable};
 
-use super::{Meters, Money, Quota, State, choice};
-use presence::{Location, ServiceState, Services};
-use tariff::{Allowance, Place, Plan, Units};
+use super::{Meters, Money, Quota, State};
+use presence::{Log, ServiceState, Services};
+use tariff::{Allowance, Place, Plan};
 
 // The allowance of a prepaid credit on a day.
+#[tactic(auto, using(crate::proofs::Caps::credit_fits))]
 fn allowance_on(credit: u64, day: u64) -> Allowance
     requires { credit ≤ 1000000000 }
     ensures { result ≡ credit_allowance credit (caps_on built_in day).kb }
 {
-    let caps = tariff::caps::caps_of(day);
-    tariff::plans::allowance_from(credit, caps.kb)
+    tariff::plans::allowance_from(credit, tariff::caps::caps_of(day).kb)
+}
+
+// Where `renews` holds, a new L, and R counts anew; H stays.
+fn renewed(renews: bool, allowance: Allowance, before: Quota) -> Quota
+    ensures { result ≡ renewed_if renews allowance before }
+{
+    if renews {
+        Quota {
+            roamed: 0,
+            allowance,
+            ..before
+        }
+    } else {
+        before
+    }
+}
+
+// Where `turns` holds, a new L, and H and R count anew.
+// kept: beside `renewed`, since one for both would take a second flag for H, which no definition has.
+fn turned(turns: bool, allowance: Allowance, before: Quota) -> Quota
+    ensures { result ≡ turned_if turns allowance before }
+{
+    if turns {
+        Quota {
+            monthly: 0,
+            roamed: 0,
+            allowance,
+        }
+    } else {
+        before
+    }
 }
 
 // All but the log after a registration.
+#[tactic(auto, unfolding(crate::specs::Moves::registered, crate::specs::Moves::enters))]
 pub fn registered_at(a: State, p: Place) -> State
     requires { a.money.credit ≤ 1000000000 }
     ensures { result ≡ registered a p }
 {
-    let plan = a.plan;
-    let form = plan.form;
-    let from = a.place;
-    let before = a.quota;
-    let old = before.allowance;
-    let to = Location::At(p);
-    let prepaid = tariff::plans::prepaid(form);
-    let was = presence::days::zone_at(from);
-    let is = presence::days::zone_at(to);
-    let enters = prepaid & (!was & is);
-    let fresh = allowance_on(a.money.credit, a.day);
-    let allowance = choice::pick_allowance(enters, fresh, old);
-    let roamed = choice::pick(enters, 0, a.quota.roamed);
-    let today = presence::days::marked(to, a.today);
-    let quota = Quota {
-        roamed: roamed,
-        allowance: allowance,
-        ..before
-    };
+    let to = Some(p);
+    let enters = tariff::plans::prepaid(a.plan.form)
+        & (!presence::days::zone_at(a.place) & presence::days::zone_at(to));
     State {
         place: to,
-        quota: quota,
-        today: today,
+        quota: renewed(enters, allowance_on(a.money.credit, a.day), a.quota),
+        today: presence::days::marked(to, a.today),
         ..a
     }
 }
 
 // All but the log after a top-up.
-pub fn topped_by(a: State, n: u64) -> State
+#[tactic(auto, unfolding(crate::specs::Moves::topped, crate::specs::Moves::renews))]
+pub fn topped_by(mut a: State, n: u64) -> State
     requires { (a.money.credit + n ≤ 1000000000) × (a.money.paid + n ≤ 1000000000) }
     ensures { result ≡ topped a n }
 {
-    let plan = a.plan;
-    let form = plan.form;
-    let place = a.place;
-    let before = a.quota;
-    let old = before.allowance;
-    let prepaid = tariff::plans::prepaid(form);
-    let here = presence::days::zone_at(place);
-    let renews = prepaid & here;
-    let credit = a.money.credit + n;
-    let fresh = allowance_on(credit, a.day);
-    let allowance = choice::pick_allowance(renews, fresh, old);
-    let roamed = choice::pick(renews, 0, a.quota.roamed);
-    let had = a.money;
-    let money = Money {
-        credit: credit,
-        paid: had.paid + n,
-        ..had
-    };
-    let quota = Quota {
-        roamed: roamed,
-        allowance: allowance,
-        ..before
-    };
-    State {
-        money: money,
-        quota: quota,
-        ..a
-    }
-}
-
-fn least(m: usize, n: usize) -> usize
-    ensures { result ≡ min m n }
-{
-    if m < n { m } else { n }
+    let renews = tariff::plans::prepaid(a.plan.form) & presence::days::zone_at(a.place);
+    a.money.credit += n;
+    a.money.paid += n;
+    a.quota = renewed(renews, allowance_on(a.money.credit, a.day), a.quota);
+    a
 }
 
 // All but the log on the next day, where the log has today in it.
-pub fn next_from(a: State, log: &[u64]) -> State
-    requires { Turns a (days_of log.now) × (length log.now ≡ 1599) }
+#[tactic(auto, using(crate::proofs::Caps::state_fits, crate::proofs::Caps::logged_few), unfolding(crate::specs::Moves::next_state_of, crate::specs::Moves::turns_month))]
+pub fn next_from(a: State, log: &Log) -> State
+    requires { Turns a (days_of log.now) }
     ensures { result ≡ next_state_of a (days_of log.now) }
 {
-    let plan = a.plan;
-    let form = plan.form;
-    let before = a.quota;
-    let old = before.allowance;
-    let states = a.services;
     let day = a.day + 1;
-    let n = least(123, a.logged as usize + 1);
-    let services = presence::states::services_next(states, log, n);
-    let prepaid = tariff::plans::prepaid(form);
-    let first = calendar::starts_month(day);
-    let turns = !prepaid & first;
-    let caps = tariff::caps::caps_of(day);
-    let fresh = tariff::plans::allowance_of(plan, caps.kb);
-    let allowance = choice::pick_allowance(turns, fresh, old);
-    let monthly = choice::pick(turns, 0, a.quota.monthly);
-    let roamed = choice::pick(turns, 0, a.quota.roamed);
-    let today = presence::days::day_empty();
-    let logged = n as u64;
-    let quota = Quota {
-        monthly: monthly,
-        roamed: roamed,
-        allowance: allowance,
-    };
+    let logged = (a.logged + 1).min(123);
+    let turns = !tariff::plans::prepaid(a.plan.form) & calendar::starts_month(day);
+    let allowance = tariff::plans::allowance_of(a.plan, tariff::caps::caps_of(day).kb);
     State {
-        day: day,
-        quota: quota,
-        today: today,
-        logged: logged,
-        services: services,
+        day,
+        quota: turned(turns, allowance, a.quota),
+        today: presence::days::day_empty(),
+        logged,
+        services: presence::states::services_next(a.services, log, logged as usize),
         ..a
-    }
-}
-
-fn all_clear() -> Services
-    ensures { result ≡ all_clear }
-{
-    let internet = ServiceState::Clear;
-    let calls = ServiceState::Clear;
-    let messages = ServiceState::Clear;
-    Services {
-        internet: internet,
-        calls: calls,
-        messages: messages,
-    }
-}
-
-fn no_meters() -> Meters
-    ensures { result ≡ no_meters }
-{
-    let none = Units {
-        kb: 0,
-        outgoing: 0,
-        incoming: 0,
-        sms: 0,
-    };
-    Meters {
-        lifetime: none,
-        chargedseconds: 0,
-        billed: none,
-        surcharged: none,
-        basis: none,
     }
 }
 
 // All but the log of a newly opened account.
+#[tactic(auto, using(crate::proofs::Caps::bundle_fits), unfolding(crate::specs::Moves::opened_state))]
 pub fn opened_with(p: Plan) -> State
     requires { Payable p }
     ensures { result ≡ opened_state p }
 {
-    let caps = tariff::caps::caps_of(p.start);
-    let allowance = tariff::plans::allowance_of(p, caps.kb);
-    let services = all_clear();
-    let today = presence::days::day_empty();
-    let place = Location::Nowhere;
-    let money = Money {
-        credit: 0,
-        paid: 0,
-        homecharges: 0,
-        surcharges: 0,
-    };
-    let meters = no_meters();
-    let quota = Quota {
-        monthly: 0,
-        roamed: 0,
-        allowance: allowance,
-    };
     State {
         plan: p,
         day: p.start,
-        place: place,
-        money: money,
-        meters: meters,
-        quota: quota,
-        today: today,
+        place: None,
+        money: Money::default(),
+        meters: Meters::default(),
+        quota: Quota {
+            monthly: 0,
+            roamed: 0,
+            allowance: tariff::plans::allowance_of(p, tariff::caps::caps_of(p.start).kb),
+        },
+        today: presence::days::day_empty(),
         logged: 0,
-        services: services,
+        services: Services {
+            internet: ServiceState::Clear,
+            calls: ServiceState::Clear,
+            messages: ServiceState::Clear,
+        },
     }
 }

@@ -1,31 +1,19 @@
 // Soundness of all but the log (sound-1 to sound-6, sound-8 to sound-11, half-6).
 ghost use Rattle.std.specs.Prelude.{◌≡◌, true, false, ◌+◌, ◌-◌, ◌*◌, ◌<◌, min, leb};
-ghost use Rattle.tariff.specs.Tests.{is_accepted};
 ghost use Rattle.tariff.specs.Units.{each, ◌⊗◌, fits};
-ghost use Rattle.tariff.specs.Plan.{plan_verdict};
 ghost use Rattle.presence.specs.Log.{lifetime_most};
 ghost use Rattle.state.specs.Sound.{chargeable, allowance_fits, warning_fits, counters_sound, charges_sound};
 
 use super::State;
 use presence::ServiceState;
-use tariff::{Allowance, Plan, Units, Verdict};
-
-fn plan_opens(p: Plan) -> bool
-    ensures { result ≡ is_accepted (plan_verdict p) }
-{
-    let v = tariff::plans::check_plan(p);
-    match v {
-        Verdict::Accepted => true,
-        Verdict::Refused(_) => false,
-    }
-}
+use tariff::{Allowance, Units};
 
 fn allowance_fits(l: Allowance) -> bool
     ensures { result ≡ allowance_fits l }
 {
     match l {
-        Allowance::NoLimit => true,
-        Allowance::Kilobytes(n) => n <= 2000000000000000,
+        None => true,
+        Some(n) => n <= 2000000000000000,
     }
 }
 
@@ -33,41 +21,33 @@ fn warning_fits(s: ServiceState) -> bool
     ensures { result ≡ warning_fits s }
 {
     match s {
-        ServiceState::Clear => true,
         ServiceState::Warned(n) => n <= 14,
-        ServiceState::Surcharged => true,
+        ServiceState::Clear | ServiceState::Surcharged => true,
     }
 }
 
-// Is c at most 20,000 x n? The product is made only where it fits.
+// Is c at most 20,000 x n? A product that is past every number is held at the largest, which c is at most, too.
 fn sum_fits(c: u64, n: u64) -> bool
     ensures { result ≡ leb c (20000 * n) }
 {
-    if n > 922337203685477 {
-        return true;
-    }
-    c <= 20000 * n
+    c <= n.saturating_mul(20000)
 }
 
+// kept: a line for each kind, since it answers a bool; by `kind_by_kind` a comparison of units would have to follow.
 fn basis_fits(c: Units, n: Units) -> bool
     ensures { result ≡ fits c (each 20000 20000 20000 20000 ⊗ n) }
 {
-    let kb = sum_fits(c.kb, n.kb);
-    let outgoing = sum_fits(c.outgoing, n.outgoing);
-    let incoming = sum_fits(c.incoming, n.incoming);
-    let sms = sum_fits(c.sms, n.sms);
-    kb & outgoing & incoming & sms
+    sum_fits(c.kb, n.kb)
+        & sum_fits(c.outgoing, n.outgoing)
+        & sum_fits(c.incoming, n.incoming)
+        & sum_fits(c.sms, n.sms)
 }
 
 // How many days have to be logged (sound-10).
 fn days_logged(start: u64, day: u64) -> u64
     ensures { result ≡ min 123 (day - start) }
 {
-    if day < start {
-        return 0;
-    }
-    let n = day - start;
-    if n < 123 { n } else { 123 }
+    day.saturating_sub(start).min(123)
 }
 
 fn lifetime_fits(u: Units) -> bool
@@ -83,57 +63,38 @@ fn lifetime_fits(u: Units) -> bool
 }
 
 // What priced and surcharged units may come to.
+#[tactic(auto, unfolding(crate::specs::Sound::chargeable))]
 fn chargeable_of(a: State) -> Units
     ensures { result ≡ chargeable a }
 {
-    let lifetime = a.meters.lifetime;
     Units {
-        kb: lifetime.kb,
         outgoing: a.meters.chargedseconds,
-        incoming: lifetime.incoming,
-        sms: lifetime.sms,
+        ..a.meters.lifetime
     }
 }
 
 // Are the account's counters sound, one by one? Any values will do.
+#[tactic(auto, unfolding(crate::specs::Sound::counters_sound, tariff::specs::Tests::all))]
 pub fn counters_fit(a: State) -> bool
     ensures { result ≡ counters_sound a }
 {
-    let plan = a.plan;
-    let lifetime = a.meters.lifetime;
-    let quota = a.quota;
-    let allowance = quota.allowance;
-    let services = a.services;
-    let internet = services.internet;
-    let calls = services.calls;
-    let messages = services.messages;
     let chargeable = chargeable_of(a);
-    let plan_ok = plan_opens(plan);
-    let lifetime_ok = lifetime_fits(lifetime);
-    let billed_ok = tariff::amounts::units_fit(a.meters.billed, chargeable);
-    let surcharged_ok = tariff::amounts::units_fit(a.meters.surcharged, chargeable);
-    let basis_ok = basis_fits(a.meters.basis, a.meters.surcharged);
-    let allowance_ok = allowance_fits(allowance);
-    let logged = days_logged(plan.start, a.day);
-    let internet_ok = warning_fits(internet);
-    let calls_ok = warning_fits(calls);
-    let messages_ok = warning_fits(messages);
-    plan_ok
-        & (plan.start <= a.day)
+    tariff::plans::check_plan(a.plan).is_ok()
+        & (a.plan.start <= a.day)
         & (a.day <= 3833)
-        & lifetime_ok
+        & lifetime_fits(a.meters.lifetime)
         & (a.meters.chargedseconds <= 1000000000000)
         & (a.money.paid <= 1000000000)
-        & (a.quota.roamed <= lifetime.kb)
-        & (a.quota.monthly <= lifetime.kb)
-        & billed_ok
-        & surcharged_ok
-        & basis_ok
-        & allowance_ok
-        & (a.logged == logged)
-        & internet_ok
-        & calls_ok
-        & messages_ok
+        & (a.quota.roamed <= a.meters.lifetime.kb)
+        & (a.quota.monthly <= a.meters.lifetime.kb)
+        & tariff::amounts::units_fit(a.meters.billed, chargeable)
+        & tariff::amounts::units_fit(a.meters.surcharged, chargeable)
+        & basis_fits(a.meters.basis, a.meters.surcharged)
+        & allowance_fits(a.quota.allowance)
+        & (a.logged == days_logged(a.plan.start, a.day))
+        & warning_fits(a.services.internet)
+        & warning_fits(a.services.calls)
+        & warning_fits(a.services.messages)
 }
 
 // Are the charges as worked out, and does the money balance?

@@ -1,13 +1,13 @@
 -- Tables of caps: the search from the last row back, the rows that it reads, and what the rows tell of every day. Assumes nothing.
 use Prim.Native.Nat.{ℕ, zero, suc, ◌+◌, ◌*◌, ◌-◌, ◌≤◌, ◌<◌}
 use mathlib.Core.Path.{◌≡◌, refl, sym, ◌∙◌, ap}
-use mathlib.Core.Bool.{Bool, true, false, cond, ◌&&◌}
+use mathlib.Core.Bool.{Bool, true, false, cond}
 use mathlib.Core.List.{List, [], ◌∷◌, ◌++◌}
 use native.Mathlib.Nat.{mul-le-mul_right}
 use native.Mathlib.Omega.{arith}
-use lib.Dec.{leb, ltb}
+use lib.Dec.{leb}
 use lib.ListN.{length, replicate}
-use borrow.Author.Tests.{leb-true, leb-false, le-leb, lt-leb, ltb-true, ltb-false}
+use borrow.Author.Tests.{leb-true, leb-false, le-leb, lt-leb}
 use Rattle.tariff.specs.declared.Units.{Units}
 use Rattle.tariff.specs.declared.Row.{Row}
 use Rattle.tariff.specs.Units.{each, ◌⊕◌, ◌⊗◌, AtMost}
@@ -140,33 +140,26 @@ reading_first xs count d h =
     let k : count - 1 + 1 ≡ count = omega (arith, h) in
     record { some = omega arith; most = h; left = rw k (omega arith) }
 
--- its next step, and its end
-pub reading_next : (xs : List ℕ) (count d read x : ℕ) → Reading xs count d read → x ≡ number xs (count - read) 0 → ltb read count && ltb d x ≡ true
-    → (read < count) × Reading xs count d (read + 1)
-reading_next xs count d read x r e t =
-    let h : read < count = ltb-true read count (and_left (ltb read count) (ltb d x) t) in
-    let l : d < x = ltb-true d x (and_right (ltb read count) (ltb d x) t) in
+-- its next step where the row that it comes to has not begun, and its end where that has, or at the first row
+pub reading_next : (xs : List ℕ) (count d read : ℕ) → Reading xs count d read → read < count → d < number xs (count - read) 0 → Reading xs count d (read + 1)
+reading_next xs count d read r h l =
     let k : count - read + 1 ≡ suc (count - read) = omega arith in
     let m : count - (read + 1) + 1 ≡ count - read = omega (arith, h) in
-    let on : rows_read xs (suc (count - read)) d ≡ suc (rows_read xs (count - read) d) = reads_on xs (count - read) d (omega (arith, l, e)) in
+    let on : rows_read xs (suc (count - read)) d ≡ suc (rows_read xs (count - read) d) = reads_on xs (count - read) d l in
     let old : rows_read xs count d + 1 ≡ read + rows_read xs (suc (count - read)) d = rw k at r.left in
-    (h, record { some = omega arith; most = omega (arith, h); left = rw m (omega (arith, old, on)) })
+    record { some = omega arith; most = omega (arith, h); left = rw m (omega (arith, old, on)) }
 
-pub reading_ends : (xs : List ℕ) (count d read x : ℕ) → Reading xs count d read → x ≡ number xs (count - read) 0 → ltb read count && ltb d x ≡ false
-    → rows_read xs count d ≡ read
-reading_ends xs count d read x r e t = go (ltb read count) refl t
-  where
-    k : count - read + 1 ≡ suc (count - read)
-    k = omega arith
+pub reading_ends : (xs : List ℕ) (count d read : ℕ) → Reading xs count d read → number xs (count - read) 0 ≤ d → rows_read xs count d ≡ read
+reading_ends xs count d read r b =
+    let k : count - read + 1 ≡ suc (count - read) = omega arith in
+    let old : rows_read xs count d + 1 ≡ read + rows_read xs (suc (count - read)) d = rw k at r.left in
+    omega (arith, old, reads_here xs (count - read) d b)
 
-    old : rows_read xs count d + 1 ≡ read + rows_read xs (suc (count - read)) d
-    old = rw k at r.left
-
-    go : (b : Bool) → ltb read count ≡ b → b && ltb d x ≡ false → rows_read xs count d ≡ read
-    go true f g = omega (arith, old, reads_here xs (count - read) d (omega (arith, e, ltb-false d x g)))
-    go false f g =
-        let z : count - read ≡ 0 = omega (arith, r.most, ltb-false read count f) in
-        omega (arith, rw z at old, reads_first xs d)
+pub reading_all : (xs : List ℕ) (count d : ℕ) → Reading xs count d count → rows_read xs count d ≡ count
+reading_all xs count d r =
+    let k : count - count + 1 ≡ 1 = omega arith in
+    let old : rows_read xs count d + 1 ≡ count + rows_read xs 1 d = rw k at r.left in
+    omega (arith, old, reads_first xs d)
 
 -- at least one row is read
 pub reads_some : (xs : List ℕ) (n d : ℕ) → 1 ≤ n → 1 ≤ rows_read xs n d

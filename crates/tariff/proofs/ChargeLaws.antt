@@ -7,11 +7,10 @@ use Rattle.tariff.specs.declared.Units.{Units}
 use Rattle.tariff.specs.declared.Form.{Form}
 use Rattle.tariff.specs.declared.Form.TheVariants.{Prepaid, Bundle, Unlimited}
 use Rattle.tariff.specs.declared.Plan.{Plan}
-use Rattle.tariff.specs.declared.Allowance.{Allowance}
-use Rattle.tariff.specs.declared.Allowance.TheVariants.{NoLimit, Kilobytes}
 use Rattle.tariff.specs.Units.{AtMost}
 use Rattle.tariff.specs.Charges.{after_first, billed_kb, counted_kb, after_allowance, home_charges_of, surcharges_of, PriceFits, BasisFits}
 use Rattle.tariff.specs.Charges.{AfterFirstLaws}
+use Rattle.std.specs.Prelude.{Option, Some, None}
 
 pub telescope : (x y z : ℕ) → x ≤ y → y ≤ z → (y - x) + (z - y) ≡ z - x
 telescope x y z p q = omega arith
@@ -68,20 +67,20 @@ billed_grows Prepaid v h m n l = l
 billed_grows Bundle v h m n l = after_first_grows v h m n l
 billed_grows Unlimited v h m n l = omega arith
 
-pub after_allowance_adds : (l : Allowance) (r m n : ℕ) → after_allowance l r m + after_allowance l (r + m) n ≡ after_allowance l r (m + n)
+pub after_allowance_adds : (l : Option ℕ) (r m n : ℕ) → after_allowance l r m + after_allowance l (r + m) n ≡ after_allowance l r (m + n)
 unfolding after_allowance
-after_allowance_adds NoLimit r m n = refl
-after_allowance_adds (Kilobytes l) r m n = after_first_adds l r m n
+after_allowance_adds None r m n = refl
+after_allowance_adds (Some l) r m n = after_first_adds l r m n
 
-pub after_allowance_bounded : (l : Allowance) (r n : ℕ) → after_allowance l r n ≤ n
+pub after_allowance_bounded : (l : Option ℕ) (r n : ℕ) → after_allowance l r n ≤ n
 unfolding after_allowance
-after_allowance_bounded NoLimit r n = omega arith
-after_allowance_bounded (Kilobytes l) r n = after_first_bounded l r n
+after_allowance_bounded None r n = omega arith
+after_allowance_bounded (Some l) r n = after_first_bounded l r n
 
-pub after_allowance_grows : (l : Allowance) (r m n : ℕ) → m ≤ n → after_allowance l r m ≤ after_allowance l r n
+pub after_allowance_grows : (l : Option ℕ) (r m n : ℕ) → m ≤ n → after_allowance l r m ≤ after_allowance l r n
 unfolding after_allowance
-after_allowance_grows NoLimit r m n h = omega arith
-after_allowance_grows (Kilobytes l) r m n h = after_first_grows l r m n h
+after_allowance_grows None r m n h = omega arith
+after_allowance_grows (Some l) r m n h = after_first_grows l r m n h
 
 -- more units, no smaller charges
 pub home_charges_grow : (p : Plan) (u v : Units) → AtMost u v → home_charges_of p u ≤ home_charges_of p v

@@ -5,17 +5,18 @@ use lib.Dec.{leb, ltb}
 use borrow.Author.Tests.{ltb-true, ltb-false, le-leb, lt-leb}
 use Rattle.tariff.specs.declared.Plan.{Plan}
 use Rattle.tariff.specs.declared.Terms.{Terms}
-use Rattle.tariff.specs.declared.Verdict.TheVariants.{Accepted, Refused}
 use Rattle.tariff.specs.Tests.{all, verdict_of, is_accepted}
 use Rattle.tariff.specs.Plan.{unused_empty, prices_in_range, terms_in_range, plan_in_range, start_in_range, amount_reasons, plan_reasons, plan_verdict, plan_with, terms_reasons}
 use Rattle.tariff.specs.Faults.{base_verdict, base_terms_verdict, told_as_1, PlansAsBefore}
 use Rattle.tariff.proofs.PlanLaws.{by_tests, accepted_in_range, known_form}
+use Rattle.std.specs.Prelude.{Ok, Err}
+use Rattle.tariff.specs.declared.Refusal.TheVariants.{UnusedField, StartDay}
 
 told : (p : Plan) → told_as_1 (plan_verdict p) ≡ base_verdict p
 unfolding base_verdict plan_verdict plan_reasons amount_reasons plan_in_range all verdict_of
 told p = go (unused_empty p.form p) (prices_in_range p) (terms_in_range p.form p) (start_in_range p)
   where
-    go : (u v w d : Bool) → told_as_1 (by_tests u v w d) ≡ cond (not (u && v && w)) (Refused 1) (cond (not d) (Refused 2) Accepted)
+    go : (u v w d : Bool) → told_as_1 (by_tests u v w d) ≡ cond (not (u && v && w)) (Err UnusedField) (cond (not d) (Err StartDay) (Ok tt))
     go false v w d = refl
     go true false w d = refl
     go true true false d = refl
@@ -23,7 +24,7 @@ told p = go (unused_empty p.form p) (prices_in_range p) (terms_in_range p.form p
     go true true true true = refl
 
 -- words of an unknown form are declined with 1
-unknown_form : (t : Terms) → ltb 2 t.form ≡ true → verdict_of (terms_reasons t) ≡ Refused 1
+unknown_form : (t : Terms) → ltb 2 t.form ≡ true → verdict_of (terms_reasons t) ≡ Err UnusedField
 unfolding terms_reasons verdict_of
 unknown_form t h = rw h refl
 
@@ -38,7 +39,7 @@ told_words : (t : Terms) → told_as_1 (verdict_of (terms_reasons t)) ≡ base_t
 unfolding base_terms_verdict
 told_words t = go (ltb 2 t.form) refl
   where
-    go : (b : Bool) → ltb 2 t.form ≡ b → told_as_1 (verdict_of (terms_reasons t)) ≡ cond (ltb 2 t.form) (Refused 1) (base_verdict (plan_with t))
+    go : (b : Bool) → ltb 2 t.form ≡ b → told_as_1 (verdict_of (terms_reasons t)) ≡ cond (ltb 2 t.form) (Err UnusedField) (base_verdict (plan_with t))
     go true h = rw (unknown_form t h, h) refl
     go false h = rw (known_form t (ltb-false _ _ h), h) (told (plan_with t))
 

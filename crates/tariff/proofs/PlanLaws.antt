@@ -10,11 +10,12 @@ use Rattle.tariff.specs.declared.Form.{Form}
 use Rattle.tariff.specs.declared.Form.TheVariants.{Prepaid, Bundle, Unlimited}
 use Rattle.tariff.specs.declared.Plan.{Plan}
 use Rattle.tariff.specs.declared.Terms.{Terms}
-use Rattle.tariff.specs.declared.Verdict.{Verdict}
-use Rattle.tariff.specs.declared.Verdict.TheVariants.{Accepted, Refused}
 use Rattle.tariff.specs.Tests.{all, between, verdict_of, is_accepted}
 use Rattle.tariff.specs.Plan.{unused_empty, prices_in_range, terms_in_range, plan_in_range, start_in_range, amount_reasons, plan_reasons, plan_verdict, plan_with, terms_reasons}
 use Rattle.tariff.proofs.Tests.{and_left, and_right, all_head, all_tail, first_fails}
+use Rattle.std.specs.Prelude.{Result, Ok, Err, ⊤}
+use Rattle.tariff.specs.declared.Refusal.{Refusal}
+use Rattle.tariff.specs.declared.Refusal.TheVariants.{UnusedField, StartDay, PriceRange, FeeRange}
 
 -- the plan's prices, fee and volume are bounded
 pub record Ranged (p : Plan) : Type 0 where
@@ -64,8 +65,8 @@ plan_ranged p e =
     record { gigabyte = q.gigabyte; minute = q.minute; message = q.message; money = r.money; kilobytes = r.kilobytes }
 
 -- the verdict by the four tests of a plan
-abbrev pub by_tests : Bool → Bool → Bool → Bool → Verdict
-by_tests u v w d = cond (not u) (Refused 1) (cond (not v) (Refused 17) (cond (not w) (Refused 18) (cond (not d) (Refused 2) Accepted)))
+abbrev pub by_tests : Bool → Bool → Bool → Bool → Result ⊤ Refusal
+by_tests u v w d = cond (not u) (Err UnusedField) (cond (not v) (Err PriceRange) (cond (not w) (Err FeeRange) (cond (not d) (Err StartDay) (Ok tt))))
 
 -- a plan is accepted exactly in its ranges, and on a start day in its own
 pub accepted_in_range : (p : Plan) → is_accepted (plan_verdict p) ≡ plan_in_range p && start_in_range p

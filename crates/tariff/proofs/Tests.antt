@@ -5,8 +5,8 @@ use mathlib.Core.List.{List, [], ◌∷◌}
 use Prim.Native.Nat.{ℕ, ◌≤◌}
 use lib.Dec.{leb, eqb}
 use borrow.Author.Tests.{leb-true, le-leb, eqb-true, eq-eqb}
-use Rattle.tariff.specs.declared.Verdict.TheVariants.{Refused}
 use Rattle.tariff.specs.Tests.{all, all_from, Reason, verdict_of, is_accepted}
+use Rattle.std.specs.Prelude.{Err}
 
 -- two tests are the same where each implies the other
 pub bool_ext : (s t : Bool) → (s ≡ true → t ≡ true) → (t ≡ true → s ≡ true) → s ≡ t
@@ -91,7 +91,7 @@ pub first_fails : (r : Reason) (rs : List Reason) → is_accepted (verdict_of (r
 unfolding verdict_of
 first_fails r rs h = go r.holds h
   where
-    go : (b : Bool) → is_accepted (cond b (Refused r.number) (verdict_of rs)) ≡ true → b ≡ false
+    go : (b : Bool) → is_accepted (cond b (Err r.refusal) (verdict_of rs)) ≡ true → b ≡ false
     go true f = sym f
     go false f = refl
 
@@ -99,7 +99,7 @@ pub rest_accepts : (r : Reason) (rs : List Reason) → is_accepted (verdict_of (
 unfolding verdict_of
 rest_accepts r rs h = go r.holds h
   where
-    go : (b : Bool) → is_accepted (cond b (Refused r.number) (verdict_of rs)) ≡ true → is_accepted (verdict_of rs) ≡ true
+    go : (b : Bool) → is_accepted (cond b (Err r.refusal) (verdict_of rs)) ≡ true → is_accepted (verdict_of rs) ≡ true
     go true f = cc
     go false f = f
 

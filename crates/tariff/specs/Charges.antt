@@ -1,13 +1,11 @@
 -- Which kB bear home price and surcharge, and what units come to over an account's life (use-3, use-4, use-7, use-11,
 -- use-12, limit-2). Choices (docs/DECISIONS.md, "Account"): units after the first L of R, or V of H; L none; L 0; H.
 -- Assumes nothing.
-use Rattle.std.specs.Prelude.{ℕ, ◌+◌, ◌*◌, ◌-◌, ◌/◌, ◌≤◌, ◌≡◌}
+use Rattle.std.specs.Prelude.{ℕ, ◌+◌, ◌*◌, ◌-◌, ◌/◌, ◌≤◌, ◌≡◌, Option, Some, None}
 use Rattle.tariff.specs.declared.Units.{Units}
 use Rattle.tariff.specs.declared.Form.{Form}
 use Rattle.tariff.specs.declared.Form.TheVariants.{Prepaid, Bundle, Unlimited}
 use Rattle.tariff.specs.declared.Plan.{Plan}
-use Rattle.tariff.specs.declared.Allowance.{Allowance}
-use Rattle.tariff.specs.declared.Allowance.TheVariants.{NoLimit, Kilobytes}
 
 -- use-4, use-7: of n units that follow r others, those past the first l
 unfoldable pub after_first : ℕ → ℕ → ℕ → ℕ
@@ -33,9 +31,9 @@ counted_kb Bundle n = n
 counted_kb Unlimited n = n
 
 -- use-7, limit-1: of n zone kB, after r others, those past L
-unfoldable pub after_allowance : Allowance → ℕ → ℕ → ℕ
-after_allowance NoLimit r n = 0
-after_allowance (Kilobytes l) r n = after_first l r n
+unfoldable pub after_allowance : Option ℕ → ℕ → ℕ → ℕ
+after_allowance None r n = 0
+after_allowance (Some l) r n = after_first l r n
 
 -- use-11, unit-1, limit-3: home charges over the account's life
 unfoldable pub home_charges_of : Plan → Units → ℕ

@@ -8,3 +8,4 @@ pub mod Plan
 pub mod Faults
 pub mod Charges
 pub mod Claims
+pub mod Refusal

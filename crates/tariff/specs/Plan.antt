@@ -1,18 +1,14 @@
 -- The plan, its ranges and faults (plan-1 to plan-7, fault-1 to fault-4, refusal-1, refusal-2), and the zone data limit
 -- that plan or credit give (limit-3 to limit-6). Choices (docs/DECISIONS.md, "Account"): form of a plan; an unused
 -- field that is also too large; V of a bundle that is 0; an unknown form with other faults; prices. Assumes nothing.
-use Rattle.std.specs.Prelude.{ℕ, ◌*◌, ◌/◌, ◌≤◌, Bool, true, false, not, cond, ◌&&◌, ◌||◌, List, [], ◌∷◌, leb, ltb, eqb}
+use Rattle.std.specs.Prelude.{ℕ, ◌*◌, ◌/◌, ◌≤◌, Bool, true, false, not, cond, ◌&&◌, ◌||◌, List, [], ◌∷◌, leb, ltb, eqb, Option, Some, None, Result, Ok, Err, ⊤}
 use Rattle.tariff.specs.declared.Form.{Form}
 use Rattle.tariff.specs.declared.Form.TheVariants.{Prepaid, Bundle, Unlimited}
 use Rattle.tariff.specs.declared.Plan.{Plan}
 use Rattle.tariff.specs.declared.Terms.{Terms}
-use Rattle.tariff.specs.declared.Allowance.{Allowance}
-use Rattle.tariff.specs.declared.Allowance.TheVariants.{NoLimit, Kilobytes}
-use Rattle.tariff.specs.declared.Verdict.{Verdict}
-use Rattle.tariff.specs.declared.Verdict.TheVariants.{Accepted, Refused}
-use Rattle.tariff.specs.declared.PlanAnswer.{PlanAnswer}
-use Rattle.tariff.specs.declared.PlanAnswer.TheVariants.{Granted}
 use Rattle.tariff.specs.Tests.{all, between, Reason, because, verdict_of}
+use Rattle.tariff.specs.declared.Refusal.{Refusal}
+use Rattle.tariff.specs.declared.Refusal.TheVariants.{UnusedField, StartDay, PriceRange, FeeRange}
 
 -- plan-1: the form is prepaid
 abbrev pub is_prepaid : Form → Bool
@@ -52,29 +48,29 @@ open_bundle Bundle fee cap volume = ltb (fee * 1048576) (cap * volume)
 open_bundle Unlimited fee cap volume = true
 
 -- limit-3, limit-4, limit-5, limit-6, limit-7, unit-1: L at opening and, of a bundle, as a month begins
-unfoldable pub plan_allowance : Plan → ℕ → Allowance
+unfoldable pub plan_allowance : Plan → ℕ → Option ℕ
 plan_allowance p cap =
-    cond (is_prepaid p.form) (Kilobytes 0)
-    (cond (open_bundle p.form p.fee cap p.volume) (Kilobytes (2 * p.fee * 1048576 / cap)) NoLimit)
+    cond (is_prepaid p.form) (Some 0)
+    (cond (open_bundle p.form p.fee cap p.volume) (Some (2 * p.fee * 1048576 / cap)) None)
 
 -- register-2, topup-2, limit-3, unit-1, promise-2: the prepaid L that a credit gives
-unfoldable pub credit_allowance : ℕ → ℕ → Allowance
-credit_allowance credit cap = Kilobytes (credit * 1048576 / cap)
+unfoldable pub credit_allowance : ℕ → ℕ → Option ℕ
+credit_allowance credit cap = Some (credit * 1048576 / cap)
 
 -- fault-2, fault-3, fault-4, order-4, refusal-2: 17, 18, then 2
 unfoldable pub amount_reasons : Plan → List Reason
 amount_reasons p =
-    because 17 (not (prices_in_range p))
-    ∷ because 18 (not (terms_in_range p.form p))
-    ∷ because 2 (not (start_in_range p))
+    because PriceRange (not (prices_in_range p))
+    ∷ because FeeRange (not (terms_in_range p.form p))
+    ∷ because StartDay (not (start_in_range p))
     ∷ []
 
 -- refusal-1, refusal-2, fault-1, order-4: Open's reasons, an unused field first
 unfoldable pub plan_reasons : Plan → List Reason
-plan_reasons p = because 1 (not (unused_empty p.form p)) ∷ amount_reasons p
+plan_reasons p = because UnusedField (not (unused_empty p.form p)) ∷ amount_reasons p
 
 -- order-1: Open on a plan
-unfoldable pub plan_verdict : Plan → Verdict
+unfoldable pub plan_verdict : Plan → Result ⊤ Refusal
 plan_verdict p = verdict_of (plan_reasons p)
 
 -- plan-1, file-7, library-2: the form of a number
@@ -101,16 +97,16 @@ plan_with t = record {
 
 -- fault-1, order-4, refusal-1: the same reasons of words, 1 also for an unknown form
 unfoldable pub terms_reasons : Terms → List Reason
-terms_reasons t = because 1 (ltb 2 t.form || not (unused_empty (form_of t.form) (plan_with t)))
+terms_reasons t = because UnusedField (ltb 2 t.form || not (unused_empty (form_of t.form) (plan_with t)))
     ∷ amount_reasons (plan_with t)
 
--- form-8: the plan, or the number that declines it
-abbrev pub plan_answer : Verdict → Plan → PlanAnswer
-plan_answer Accepted p = Granted p
-plan_answer (Refused n) p = PlanAnswer.Refused n
+-- form-8: the plan, or why it is declined
+abbrev pub plan_answer : Result ⊤ Refusal → Plan → Result Plan Refusal
+plan_answer (Ok tt) p = Ok p
+plan_answer (Err r) p = Err r
 
 -- file-7, fault-1, form-8: what a plan body's words answer
-unfoldable pub plan_of : Terms → PlanAnswer
+unfoldable pub plan_of : Terms → Result Plan Refusal
 plan_of t = plan_answer (verdict_of (terms_reasons t)) (plan_with t)
 
 -- aid: what keeps `credit_allowance` within the machine's numbers

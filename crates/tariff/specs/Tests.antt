@@ -1,8 +1,7 @@
--- Tests in a list, and reasons to decline, of which the first that holds gives the number (order-1, form-8). Every
+-- Tests in a list, and reasons to decline, of which the first that holds gives the refusal (order-1, form-8). Every
 -- operation's reasons are such a list. No choice matters here. Assumes nothing.
-use Rattle.std.specs.Prelude.{ℕ, Bool, true, false, cond, ◌&&◌, List, [], ◌∷◌, leb}
-use Rattle.tariff.specs.declared.Verdict.{Verdict}
-use Rattle.tariff.specs.declared.Verdict.TheVariants.{Accepted, Refused}
+use Rattle.std.specs.Prelude.{ℕ, Bool, true, false, cond, ◌&&◌, List, [], ◌∷◌, leb, Result, Ok, Err, ⊤}
+use Rattle.tariff.specs.declared.Refusal.{Refusal}
 
 -- aid to `all`: t and every test of the list pass
 abbrev pub all_from : Bool → List Bool → Bool
@@ -18,22 +17,22 @@ all (t ∷ ts) = all_from t ts
 abbrev pub between : ℕ → ℕ → ℕ → Bool
 between l n h = leb l n && leb n h
 
--- order-1: a number and whether its reason holds
+-- order-1: a refusal and whether its reason holds
 pub record Reason : Type 0 where
-  pub number : ℕ
+  pub refusal : Refusal
   pub holds : Bool
 
 -- aid: a reason from its two parts
-abbrev pub because : ℕ → Bool → Reason
-because n b = record { number = n; holds = b }
+abbrev pub because : Refusal → Bool → Reason
+because r b = record { refusal = r; holds = b }
 
--- order-1, list-3, form-8: the first number whose reason holds, else accepted. Law: a refusal tells a number of the
+-- order-1, list-3, form-8: the refusal of the first reason that holds, else accepted. Law: a refusal is one of the
 -- list (`ReasonsInOrder`)
-unfoldable pub verdict_of : List Reason → Verdict
-verdict_of [] = Accepted
-verdict_of (r ∷ rs) = cond r.holds (Refused r.number) (verdict_of rs)
+unfoldable pub verdict_of : List Reason → Result ⊤ Refusal
+verdict_of [] = Ok tt
+verdict_of (r ∷ rs) = cond r.holds (Err r.refusal) (verdict_of rs)
 
 -- list-3: no reason holds
-abbrev pub is_accepted : Verdict → Bool
-is_accepted Accepted = true
-is_accepted (Refused n) = false
+abbrev pub is_accepted : Result ⊤ Refusal → Bool
+is_accepted (Ok tt) = true
+is_accepted (Err r) = false

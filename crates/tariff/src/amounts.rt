@@ -8,31 +8,18 @@ use super::{Kind, Units};
 pub fn only_of(k: Kind, n: u64) -> Units
     ensures { result ≡ only k n }
 {
+    let none = Units::default();
     match k {
-        Kind::Data => Units {
-            kb: n,
-            outgoing: 0,
-            incoming: 0,
-            sms: 0,
-        },
+        Kind::Data => Units { kb: n, ..none },
         Kind::Outgoing => Units {
-            kb: 0,
             outgoing: n,
-            incoming: 0,
-            sms: 0,
+            ..none
         },
         Kind::Incoming => Units {
-            kb: 0,
-            outgoing: 0,
             incoming: n,
-            sms: 0,
+            ..none
         },
-        Kind::Sms => Units {
-            kb: 0,
-            outgoing: 0,
-            incoming: 0,
-            sms: n,
-        },
+        Kind::Sms => Units { sms: n, ..none },
     }
 }
 
@@ -49,6 +36,7 @@ pub fn amount(k: Kind, u: Units) -> u64
 }
 
 // Is u at most v in each kind?
+// kept: four comparisons are shorter than a function that joins the kinds
 pub fn units_fit(u: Units, v: Units) -> bool
     ensures { result ≡ fits u v }
 {
@@ -59,7 +47,26 @@ pub fn units_fit(u: Units, v: Units) -> bool
 pub fn is_none(u: Units) -> bool
     ensures { result ≡ no_units u }
 {
-    (u.kb == 0) & (u.outgoing == 0) & (u.incoming == 0) & (u.sms == 0)
+    u == Units::default()
+}
+
+// Two numbers of each kind made into one.
+pub fn kind_by_kind<F: Fn(u64, u64) -> u64>(f: F, u: Units, v: Units) -> Units
+    requires kb { F.pre f u.kb v.kb }
+    requires outgoing { F.pre f u.outgoing v.outgoing }
+    requires incoming { F.pre f u.incoming v.incoming }
+    requires sms { F.pre f u.sms v.sms }
+    ensures kb { F.post f u.kb v.kb result.kb }
+    ensures outgoing { F.post f u.outgoing v.outgoing result.outgoing }
+    ensures incoming { F.post f u.incoming v.incoming result.incoming }
+    ensures sms { F.post f u.sms v.sms result.sms }
+{
+    Units {
+        kb: f(u.kb, v.kb),
+        outgoing: f(u.outgoing, v.outgoing),
+        incoming: f(u.incoming, v.incoming),
+        sms: f(u.sms, v.sms),
+    }
 }
 
 // The sum, kind by kind.
@@ -67,12 +74,7 @@ pub fn plus(u: Units, v: Units) -> Units
     requires { Adds u v }
     ensures { result ≡ u ⊕ v }
 {
-    Units {
-        kb: u.kb + v.kb,
-        outgoing: u.outgoing + v.outgoing,
-        incoming: u.incoming + v.incoming,
-        sms: u.sms + v.sms,
-    }
+    kind_by_kind(|m, n| m + n, u, v)
 }
 
 // The product, kind by kind: units at a rate for each kind.
@@ -80,10 +82,5 @@ pub fn times(rate: Units, u: Units) -> Units
     requires { Multiplies rate u }
     ensures { result ≡ rate ⊗ u }
 {
-    Units {
-        kb: rate.kb * u.kb,
-        outgoing: rate.outgoing * u.outgoing,
-        incoming: rate.incoming * u.incoming,
-        sms: rate.sms * u.sms,
-    }
+    kind_by_kind(|m, n| m * n, rate, u)
 }

@@ -23,89 +23,81 @@ const NUMBERS: [u32; 40] = [
 ];
 
 // The built-in table.
+#[tactic(auto, unfolding(crate::specs::Caps::built_in, crate::specs::Caps::table_of))]
 fn table_built_in() -> Table
     ensures { result ≡ built_in }
 {
-    let numbers = NUMBERS;
     Table {
         count: 6,
-        numbers: numbers,
+        numbers: NUMBERS,
     }
 }
 
-fn wide(x: u32) -> u64
-    ensures { result ≡ x }
-{
-    x as u64
-}
-
 // Number k of row i.
-fn number_at(xs: &[u32; 40], i: usize, k: usize) -> u64
+fn number_at(t: &Table, i: usize, k: usize) -> u64
     requires { (i < 8) × (k < 5) }
-    ensures { result ≡ number xs.now i k }
+    ensures { result ≡ number t.now.numbers i k }
 {
-    wide(xs[5 * i + k])
+    u64::from(t.numbers[5 * i + k])
 }
 
 // Row i.
-fn row_at(xs: &[u32; 40], i: usize) -> Row
+#[tactic(auto, unfolding(crate::specs::Caps::row_at))]
+fn row_at(t: &Table, i: usize) -> Row
     requires { i < 8 }
-    ensures { result ≡ row_at xs.now i }
+    ensures { result ≡ row_at t.now.numbers i }
 {
-    let first = number_at(xs, i, 0);
-    let kb = number_at(xs, i, 1);
-    let outgoing = number_at(xs, i, 2);
-    let incoming = number_at(xs, i, 3);
-    let sms = number_at(xs, i, 4);
     Row {
-        first: first,
+        first: number_at(t, i, 0),
         caps: Units {
-            kb: kb,
-            outgoing: outgoing,
-            incoming: incoming,
-            sms: sms,
+            kb: number_at(t, i, 1),
+            outgoing: number_at(t, i, 2),
+            incoming: number_at(t, i, 3),
+            sms: number_at(t, i, 4),
         },
     }
 }
 
-// How many of the rows are read for a day, from the last one back.
-fn rows_read(xs: &[u32; 40], count: usize, day: u64) -> usize
+// How many of the rows are read for a day, from the last one back, up to one that has begun.
+#[tactic(auto, using(crate::proofs::CapLaws::reading_first, crate::proofs::CapLaws::reading_next, crate::proofs::CapLaws::reading_ends, crate::proofs::CapLaws::reading_all))]
+fn rows_read(t: &Table, count: usize, day: u64) -> usize
     requires { Searchable count }
-    ensures { result ≡ rows_read xs.now count day }
+    ensures { result ≡ rows_read t.now.numbers count day }
 {
-    let mut read: usize = 1;
-    while (read < count) & (day < number_at(xs, count - read, 0)) {
-        read += 1;
+    for read in 1..count {
+        if number_at(t, count - read, 0) <= day {
+            return read;
+        }
     }
-    read
+    count
 }
 
 // The caps of a day, and how many rows were read. The table is lent.
-fn search(xs: &[u32; 40], count: usize, day: u64) -> Found
-    requires { Searchable count }
-    ensures { result ≡ search_of (record { count = count; numbers = xs.now }) day }
+#[tactic(auto, using(crate::proofs::CapLaws::reads_at_most, crate::proofs::CapLaws::reads_some), unfolding(crate::specs::Caps::search_of))]
+fn search(t: &Table, day: u64) -> Found
+    requires { Searchable t.now.count }
+    ensures { result ≡ search_of t.now day }
 {
-    let read = rows_read(xs, count, day);
-    let row = row_at(xs, count - read);
-    let caps = row.caps;
+    let count = t.count as usize;
+    let read = rows_read(t, count, day);
     Found {
-        caps: caps,
+        caps: row_at(t, count - read).caps,
         read: read as u64,
     }
 }
 
 // The caps of a day by the built-in table, and how many rows were read. Any day will do.
+#[tactic(auto, unfolding(crate::specs::Caps::built_in, crate::specs::Caps::table_of))]
 pub fn find_caps(day: u64) -> Found
     ensures { result ≡ search_of built_in day }
 {
-    let t = table_built_in();
-    search(&t.numbers, t.count as usize, day)
+    search(&table_built_in(), day)
 }
 
 // The caps of a day by the built-in table. Any day will do.
+#[tactic(auto, using(crate::proofs::CapLaws::search_finds_caps))]
 pub fn caps_of(day: u64) -> Units
     ensures { result ≡ caps_on built_in day }
 {
-    let found = find_caps(day);
-    found.caps
+    find_caps(day).caps
 }

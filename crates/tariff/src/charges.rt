@@ -7,20 +7,15 @@ ghost use Rattle.tariff.specs.Charges.{surcharges_of, PriceFits, BasisFits};
 use super::{Allowance, Form, Plan, Units};
 
 // Of n units that follow `before` others, those after the first `limit`.
+#[tactic(auto, unfolding(crate::specs::Charges::after_first))]
 pub fn after_the_first(limit: u64, before: u64, n: u64) -> u64
     ensures { result ≡ after_first limit before n }
 {
-    if limit <= before {
-        return n;
-    }
-    let room = limit - before;
-    if n <= room {
-        return 0;
-    }
-    n - room
+    n.saturating_sub(limit.saturating_sub(before))
 }
 
 // The kB of n that bear the home price, after h others of the month.
+#[tactic(auto, unfolding(crate::specs::Charges::billed_kb))]
 pub fn billed_of(f: Form, volume: u64, h: u64, n: u64) -> u64
     ensures { result ≡ billed_kb f volume h n }
 {
@@ -32,6 +27,7 @@ pub fn billed_of(f: Form, volume: u64, h: u64, n: u64) -> u64
 }
 
 // The kB of n that count towards a bundle's month.
+#[tactic(auto, unfolding(crate::specs::Charges::counted_kb))]
 pub fn counted_of(f: Form, n: u64) -> u64
     ensures { result ≡ counted_kb f n }
 {
@@ -43,16 +39,18 @@ pub fn counted_of(f: Form, n: u64) -> u64
 }
 
 // The kB of n that lie past the allowance, after r others.
+#[tactic(auto, unfolding(crate::specs::Charges::after_allowance))]
 pub fn past_allowance(l: Allowance, r: u64, n: u64) -> u64
     ensures { result ≡ after_allowance l r n }
 {
     match l {
-        Allowance::NoLimit => 0,
-        Allowance::Kilobytes(m) => after_the_first(m, r, n),
+        None => 0,
+        Some(m) => after_the_first(m, r, n),
     }
 }
 
 // Home charges of all the billed units of an account's life: one rounding per kind.
+#[tactic(auto, unfolding(crate::specs::Charges::home_charges_of))]
 pub fn home_of(p: Plan, u: Units) -> u64
     requires { PriceFits p u }
     ensures { result ≡ home_charges_of p u }
@@ -61,6 +59,7 @@ pub fn home_of(p: Plan, u: Units) -> u64
 }
 
 // Surcharges of the sums of cap x units of an account's life: one rounding per kind.
+#[tactic(auto, unfolding(crate::specs::Charges::surcharges_of))]
 pub fn surcharges_from(basis: Units) -> u64
     requires { BasisFits basis }
     ensures { result ≡ surcharges_of basis }

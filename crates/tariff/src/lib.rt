@@ -7,10 +7,11 @@ pub mod caps;
 pub mod charges;
 pub mod claims;
 pub mod plans;
+pub mod refusals;
 
 // Units of each kind of use: kB, outgoing seconds, incoming seconds, SMS. Also a number for each kind, as caps.
 #[repr(C)]
-#[derive(Clone, Copy)]
+#[derive(Clone, Copy, PartialEq, Eq, Default)]
 pub struct Units {
     pub kb: u64,
     pub outgoing: u64,
@@ -44,6 +45,7 @@ pub struct Row {
 
 // Up to eight rows of five numbers: first day, and caps per GB, outgoing minute, incoming minute and SMS; 0 past the
 // rows.
+// kept: a count beside the numbers, since the claims on tables (`RowsOfTable`, `SearchFindsCaps`) are of such a record.
 #[derive(Clone, Copy)]
 pub struct Table {
     pub count: u64,
@@ -76,7 +78,8 @@ pub struct Plan {
     pub volume: u64,
 }
 
-// A plan as it comes from outside, its form still a number.
+// A plan as it comes from outside.
+// kept: its form is a number, as a file and the C interface give it; any number has its answer in `plan_from`.
 #[derive(Clone, Copy)]
 pub struct Terms {
     pub form: u64,
@@ -89,21 +92,58 @@ pub struct Terms {
 }
 
 // Zone data limit: none, or a number of kB.
-#[derive(Clone, Copy)]
-pub enum Allowance {
-    NoLimit,
-    Kilobytes(u64),
-}
+pub type Allowance = Option<u64>;
 
-// Accepted, or refused with a number (order-1).
-#[derive(Clone, Copy)]
-pub enum Verdict {
-    Accepted,
-    Refused(u64),
-}
+// Accepted, or why not (order-1).
+pub type Verdict = Result<(), Refusal>;
 
-#[derive(Clone, Copy)]
-pub enum PlanAnswer {
-    Granted(Plan),
-    Refused(u64),
+// The first of its reasons that a call, an opening, a file or a text meets.
+#[derive(Clone, Copy, PartialEq, Eq)]
+pub enum Refusal {
+    // 0: the numbers of an account contradict each other.
+    Unsound,
+    // 1: a plan has an unknown form, or a field that its form does not use is not 0.
+    UnusedField,
+    // 2: the start day is out of range.
+    StartDay,
+    // 3: the hotspot is registered nowhere.
+    Unplaced,
+    // 4: a use of no units, or of too many.
+    UnitCount,
+    // 5: a meter would be past its end.
+    MeterFull,
+    // 6: the cost is above the credit.
+    OverCredit,
+    // 7: a top-up of no points, or of too many.
+    TopUpSize,
+    // 8: all payments together would be past their end.
+    PaidLimit,
+    // 9: there is no later day.
+    LastDay,
+    // 10: the length of a file.
+    FileLength,
+    // 11: its words do not add up to 0.
+    FileSum,
+    // 12: its count or table of sections.
+    FileTable,
+    // 13: a section that is asked for is not there just once.
+    NotOnce,
+    // 14: the length of a plan's or of calls' body, or how many calls there are.
+    BodyLength,
+    // 15: a call with a code or a number that it cannot have.
+    CallForm,
+    // 16: too little room in what is lent.
+    NoRoom,
+    // 17: a home price is out of range.
+    PriceRange,
+    // 18: a fee or a volume is out of range.
+    FeeRange,
+    // 19: no card at the place, no cards, or too many.
+    CardPlace,
+    // 20: beyond a card's allowance, or an allowance out of range.
+    CardAllowance,
+    // 21: a text of no lines, of too many, or too long.
+    TextLength,
+    // 22: a line that is not of the form.
+    LineForm,
 }

@@ -1,26 +1,35 @@
 // Which plans are accepted, and the zone data limit that a plan gives (plan-1 to plan-7, limit-3 to limit-6, fault-1 to
 // fault-4).
 ghost use Rattle.std.specs.Prelude.{◌≡◌, true, false, ◌-◌, ◌*◌, ◌/◌, ◌<◌};
-ghost use Rattle.tariff.specs.Caps.{number};
 ghost use Rattle.tariff.specs.Plan.{is_prepaid, prices_in_range, unused_empty, terms_in_range, plan_verdict};
-ghost use Rattle.tariff.specs.Plan.{form_of, plan_with, plan_of, open_bundle, credit_allowance};
+ghost use Rattle.tariff.specs.Plan.{form_of, form_word, plan_with, plan_of, open_bundle, credit_allowance};
 ghost use Rattle.tariff.specs.Plan.{plan_allowance, CreditFits};
 ghost use Rattle.tariff.specs.Plan.{BundleFits};
 
-use super::{Allowance, Form, Plan, PlanAnswer, Terms, Verdict};
+use super::{Allowance, Form, Plan, Refusal, Terms, Verdict};
+
+// The number of a form.
+impl From<Form> for u32 {
+    ghost from_gives = { λ f n. n ≡ form_word f };
+
+    fn from(f: Form) -> u32 {
+        match f {
+            Form::Prepaid => 0,
+            Form::Bundle => 1,
+            Form::Unlimited => 2,
+        }
+    }
+}
 
 // Is the plan prepaid?
 pub fn prepaid(f: Form) -> bool
     ensures { result ≡ is_prepaid f }
 {
-    match f {
-        Form::Prepaid => true,
-        Form::Bundle => false,
-        Form::Unlimited => false,
-    }
+    matches!(f, Form::Prepaid)
 }
 
 // Are the fields that the form does not use 0?
+#[tactic(auto, unfolding(crate::specs::Plan::unused_empty))]
 fn leaves_unused(f: Form, p: Plan) -> bool
     ensures { result ≡ unused_empty f p }
 {
@@ -32,6 +41,7 @@ fn leaves_unused(f: Form, p: Plan) -> bool
 }
 
 // Are the home prices in their range?
+#[tactic(auto, unfolding(crate::specs::Plan::prices_in_range))]
 fn prices_fit(p: Plan) -> bool
     ensures { result ≡ prices_in_range p }
 {
@@ -39,6 +49,7 @@ fn prices_fit(p: Plan) -> bool
 }
 
 // Are a bundle's fee and volume in their ranges?
+#[tactic(auto, unfolding(crate::specs::Plan::terms_in_range))]
 fn terms_fit(f: Form, p: Plan) -> bool
     ensures { result ≡ terms_in_range f p }
 {
@@ -50,45 +61,44 @@ fn terms_fit(f: Form, p: Plan) -> bool
 }
 
 // May an account be opened under the plan? Refusals 1, 17, 18 and 2.
+#[tactic(auto, unfolding(crate::specs::Plan::plan_verdict, crate::specs::Plan::plan_reasons, crate::specs::Plan::amount_reasons, crate::specs::Tests::verdict_of))]
 pub fn check_plan(p: Plan) -> Verdict
     ensures { result ≡ plan_verdict p }
 {
-    let form = p.form;
-    if !leaves_unused(form, p) {
-        return Verdict::Refused(1);
+    if !leaves_unused(p.form, p) {
+        return Err(Refusal::UnusedField);
     }
     if !prices_fit(p) {
-        return Verdict::Refused(17);
+        return Err(Refusal::PriceRange);
     }
-    if !terms_fit(form, p) {
-        return Verdict::Refused(18);
+    if !terms_fit(p.form, p) {
+        return Err(Refusal::FeeRange);
     }
     if !((181 <= p.start) & (p.start <= 3833)) {
-        return Verdict::Refused(2);
+        return Err(Refusal::StartDay);
     }
-    Verdict::Accepted
+    Ok(())
 }
 
 // The form of a number up to 2.
+// Kept: no `TryFrom`, since `plan_with` promises a plan for every number.
+#[tactic(auto, unfolding(crate::specs::Plan::form_of))]
 fn form_at(word: u64) -> Form
     ensures { result ≡ form_of word }
 {
-    if word == 0 {
-        return Form::Prepaid;
+    match word {
+        0 => Form::Prepaid,
+        1 => Form::Bundle,
+        _ => Form::Unlimited,
     }
-    if word == 1 {
-        return Form::Bundle;
-    }
-    Form::Unlimited
 }
 
 // The plan of these terms, with an unknown form taken for unlimited.
 pub fn plan_with(t: Terms) -> Plan
     ensures { result ≡ plan_with t }
 {
-    let form = form_at(t.form);
     Plan {
-        form: form,
+        form: form_at(t.form),
         start: t.start,
         pergb: t.pergb,
         perminute: t.perminute,
@@ -98,22 +108,23 @@ pub fn plan_with(t: Terms) -> Plan
     }
 }
 
-// The plan of these terms, or the number that declines it: 1, also for an unknown form, then 17, 18 and 2.
-pub fn plan_from(t: Terms) -> PlanAnswer
+// The plan of these terms, or why it is declined: 1, also for an unknown form, then 17, 18 and 2.
+#[tactic(auto, using(crate::proofs::PlanLaws::known_form), unfolding(crate::specs::Plan::plan_of, crate::specs::Plan::terms_reasons, crate::specs::Tests::verdict_of))]
+pub fn plan_from(t: Terms) -> Result<Plan, Refusal>
     ensures { result ≡ plan_of t }
 {
     if t.form > 2 {
-        return PlanAnswer::Refused(1);
+        return Err(Refusal::UnusedField);
     }
     let p = plan_with(t);
-    let verdict = check_plan(p);
-    match verdict {
-        Verdict::Accepted => PlanAnswer::Granted(p),
-        Verdict::Refused(n) => PlanAnswer::Refused(n),
-    }
+    check_plan(p)?;
+    Ok(p)
 }
 
 // Is a plan of this form an open bundle, at this fee, data cap and volume?
+// kept: fee, cap and volume and their bounds (`BundleFits`) come from a plan and from a row of caps, and no type has all
+// three.
+#[tactic(auto, unfolding(crate::specs::Plan::open_bundle))]
 pub fn is_open(f: Form, fee: u64, cap: u64, volume: u64) -> bool
     requires { BundleFits fee cap volume }
     ensures { result ≡ open_bundle f fee cap volume }
@@ -126,24 +137,25 @@ pub fn is_open(f: Form, fee: u64, cap: u64, volume: u64) -> bool
 }
 
 // The allowance of a prepaid credit at a data cap.
+#[tactic(auto, unfolding(crate::specs::Plan::credit_allowance))]
 pub fn allowance_from(credit: u64, cap: u64) -> Allowance
     requires { CreditFits credit cap }
     ensures { result ≡ credit_allowance credit cap }
 {
-    Allowance::Kilobytes(credit * 1048576 / cap)
+    Some(credit * 1048576 / cap)
 }
 
 // The allowance that a plan gives at opening and, a bundle's, on each month's first day.
+#[tactic(auto, unfolding(crate::specs::Plan::plan_allowance))]
 pub fn allowance_of(p: Plan, cap: u64) -> Allowance
     requires { BundleFits p.fee cap p.volume }
     ensures { result ≡ plan_allowance p cap }
 {
-    let form = p.form;
-    if prepaid(form) {
-        return Allowance::Kilobytes(0);
+    if prepaid(p.form) {
+        return Some(0);
     }
-    if is_open(form, p.fee, cap, p.volume) {
-        return Allowance::Kilobytes(2 * p.fee * 1048576 / cap);
+    if is_open(p.form, p.fee, cap, p.volume) {
+        return Some(2 * p.fee * 1048576 / cap);
     }
-    Allowance::NoLimit
+    None
 }

@@ -11,8 +11,8 @@
 
 ghost use Rattle.std.specs.Prelude.{◌≡◌, ◌<◌, ◌≤◌, length};
 
-use account::Account;
-use state::{Answer, State};
+use account::{Account, Call};
+use state::{Answer, Outcome, State};
 use std::io;
 use tariff::{Form, Kind, Place, Plan};
 
@@ -23,173 +23,65 @@ struct Tally {
     shown: u64,
 }
 
-fn one_if_accepted(x: Answer) -> u64
-    ensures { result ≤ 1 }
-{
-    match x {
-        Answer::Done => 1,
-        Answer::Charged(_) => 1,
-        Answer::UpTo(_) => 1,
-        Answer::Refused(_) => 0,
+// What a call shows of the account and of the last answer.
+fn figure(c: Call, last: Answer, state: State) -> u64 {
+    match (c, last) {
+        (Call::Afford(_), Ok(Outcome::UpTo(n))) => n,
+        (Call::Afford(_), _) => 0,
+        (Call::NextDay, _) => state.day,
+        _ => state.money.credit,
     }
 }
 
-fn most(x: Answer) -> u64 {
-    match x {
-        Answer::Done => 0,
-        Answer::Charged(_) => 0,
-        Answer::UpTo(n) => n,
-        Answer::Refused(_) => 0,
+// The same call so many times, from the account where the calls begin.
+fn counted(mut a: Account, c: Call, times: u64) -> Tally {
+    let mut accepted = 0;
+    let mut last = Ok(Outcome::Done);
+    for _ in 0..times {
+        let done = account::apply(a, c);
+        a = done.account;
+        last = done.answer;
+        if last.is_ok() {
+            accepted += 1;
+        }
     }
-}
-
-fn paid(start: State, log: &[u64]) -> State
-    requires { length log.now ≡ 1599 }
-{
-    let mut state = start;
-    let mut i: u64 = 0;
-    while i < 100 {
-        let r = account::top_up_with(state, log, 1000);
-        state = r.state;
-        i += 1;
+    Tally {
+        accepted,
+        shown: figure(c, last, a.state),
     }
-    state
 }
 
 // The account where the calls begin: in the zone, paid for, with 123 logged days.
 fn filled(a: Account) -> Account {
-    let mut log = a.log;
-    let here = account::register_with(a.state, &log, Place::Zone);
-    let mut state = paid(here.state, &log);
-    let mut i: u64 = 0;
-    while i < 130 {
-        let r = account::next_day_with(state, &mut log);
-        state = r.state;
-        i += 1;
+    let mut full = a.register(Place::Zone).account;
+    for _ in 0..100 {
+        full = full.top_up(1000).account;
     }
-    Account {
-        state: state,
-        log: log,
+    for _ in 0..130 {
+        full = full.next_day().account;
+    }
+    full
+}
+
+// The call that a letter asks for.
+fn call_of(letter: u8) -> Call {
+    match letter {
+        b'u' => Call::Use(Kind::Data, 1),
+        b'r' => Call::Register(Place::Zone),
+        b't' => Call::TopUp(1000),
+        b'n' => Call::NextDay,
+        _ => Call::Afford(Kind::Data),
     }
 }
 
-fn days(a: Account, n: u64) -> Tally {
-    let mut held = a;
-    let mut accepted: u64 = 0;
-    let mut i: u64 = 0;
-    while i < n {
-        let r = held.next_day();
-        held = r.account;
-        let answer = r.answer;
-        accepted += one_if_accepted(answer);
-        i += 1;
-    }
-    let state = held.state;
-    Tally {
-        accepted: accepted,
-        shown: state.day,
-    }
-}
-
-fn uses(a: Account, n: u64) -> Tally {
-    let mut held = a;
-    let mut accepted: u64 = 0;
-    let mut i: u64 = 0;
-    while i < n {
-        let r = held.use_units(Kind::Data, 1);
-        held = r.account;
-        let answer = r.answer;
-        accepted += one_if_accepted(answer);
-        i += 1;
-    }
-    let state = held.state;
-    Tally {
-        accepted: accepted,
-        shown: state.money.credit,
-    }
-}
-
-fn registrations(a: Account, n: u64) -> Tally {
-    let mut held = a;
-    let mut accepted: u64 = 0;
-    let mut i: u64 = 0;
-    while i < n {
-        let r = held.register(Place::Zone);
-        held = r.account;
-        let answer = r.answer;
-        accepted += one_if_accepted(answer);
-        i += 1;
-    }
-    let state = held.state;
-    Tally {
-        accepted: accepted,
-        shown: state.money.credit,
-    }
-}
-
-fn top_ups(a: Account, n: u64) -> Tally {
-    let mut held = a;
-    let mut accepted: u64 = 0;
-    let mut i: u64 = 0;
-    while i < n {
-        let r = held.top_up(1000);
-        held = r.account;
-        let answer = r.answer;
-        accepted += one_if_accepted(answer);
-        i += 1;
-    }
-    let state = held.state;
-    Tally {
-        accepted: accepted,
-        shown: state.money.credit,
-    }
-}
-
-fn affords(a: Account, n: u64) -> Tally {
-    let mut held = a;
-    let mut accepted: u64 = 0;
-    let mut shown: u64 = 0;
-    let mut i: u64 = 0;
-    while i < n {
-        let r = held.afford(Kind::Data);
-        held = r.account;
-        let answer = r.answer;
-        accepted += one_if_accepted(answer);
-        shown = most(answer);
-        i += 1;
-    }
-    Tally {
-        accepted: accepted,
-        shown: shown,
-    }
-}
-
-fn calls(a: Account, letter: u8, n: u64) -> Tally {
-    if letter == b'u' {
-        return uses(a, n);
-    }
-    if letter == b'r' {
-        return registrations(a, n);
-    }
-    if letter == b't' {
-        return top_ups(a, n);
-    }
-    if letter == b'n' {
-        return days(a, n);
-    }
-    affords(a, n)
-}
-
+// The number of a digit, 0 of any other byte.
 fn digit(x: u8) -> u64
     ensures { result < 10 }
 {
-    if x < 48 {
-        return 0;
+    match x {
+        b'0'..=b'9' => u64::from(x - b'0'),
+        _ => 0,
     }
-    if x > 57 {
-        return 0;
-    }
-    (x - 48) as u64
 }
 
 fn show(rt: &impl Print, letter: u8, t: Tally) -> io::Result<()> {
@@ -199,9 +91,8 @@ fn show(rt: &impl Print, letter: u8, t: Tally) -> io::Result<()> {
 
 // The calls of one pair, on an account of their own.
 fn run_pair(rt: &impl Print, letter: u8, hundreds: u8) -> io::Result<()> {
-    let form = Form::Prepaid;
     let plan = Plan {
-        form: form,
+        form: Form::Prepaid,
         start: 181,
         pergb: 1000000,
         perminute: 600,
@@ -209,16 +100,18 @@ fn run_pair(rt: &impl Print, letter: u8, hundreds: u8) -> io::Result<()> {
         fee: 0,
         volume: 0,
     };
-    let opened = Account::open(plan);
-    let full = filled(opened.account);
-    show(rt, letter, calls(full, letter, 100 * digit(hundreds)))
+    let full = filled(Account::open(plan).account);
+    show(
+        rt,
+        letter,
+        counted(full, call_of(letter), 100 * digit(hundreds)),
+    )
 }
 
+// Each whole pair.
 fn run_pairs(rt: &impl Print, asked: &[u8]) -> io::Result<()> {
-    let mut at: usize = 0;
-    while 2 <= asked.len() - at {
-        run_pair(rt, asked[at], asked[at + 1])?;
-        at += 2;
+    for pair in asked.chunks_exact(2) {
+        run_pair(rt, pair[0], pair[1])?;
     }
     Ok(())
 }

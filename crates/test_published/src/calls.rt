@@ -1,16 +1,15 @@
 // The first half minute of an outgoing call in the zone, 002 article 25, note, through a whole account (02, 3/13).
 use super::windows::{again, copied};
 use account::Account;
-use state::Answer;
+use state::Outcome;
 use std::io;
 use tariff::{Form, Kind, Plan};
 
 // An account on day 730, the first of 2024, whose calls bear a surcharge: one second in the zone on each of the 138
 // days before, and 1000 points of credit.
 fn surcharged() -> Account {
-    let form = Form::Unlimited;
     let plan = Plan {
-        form: form,
+        form: Form::Unlimited,
         start: 592,
         pergb: 0,
         perminute: 0,
@@ -18,8 +17,7 @@ fn surcharged() -> Account {
         fee: 900000,
         volume: 0,
     };
-    let opened = Account::open(plan);
-    let topped = opened.account.top_up(1000);
+    let topped = Account::open(plan).account.top_up(1000);
     let coded = [1u32, 1, 3, 1, 7, 0];
     let mut calls = [0u8; 24];
     words::put_words(&mut calls, &coded);
@@ -28,14 +26,13 @@ fn surcharged() -> Account {
 
 // Units charged and surcharge points of a call of n seconds.
 fn call_line(rt: &impl Print, a: &Account, n: u64) -> io::Result<()> {
-    let used = copied(a).use_units(Kind::Outgoing, n);
-    match used.answer {
-        Answer::Charged(c) => {
+    match copied(a).use_units(Kind::Outgoing, n).answer {
+        Ok(Outcome::Charged(c)) => {
             println!(rt; "E37 seconds {n} charged {} extra {}", c.charged, c.extra)
         }
-        Answer::Refused(m) => println!(rt; "E37 seconds {n} refused {m}"),
-        Answer::Done => println!(rt; "E37 seconds {n} done"),
-        Answer::UpTo(m) => println!(rt; "E37 seconds {n} up to {m}"),
+        Ok(Outcome::Done) => println!(rt; "E37 seconds {n} done"),
+        Ok(Outcome::UpTo(m)) => println!(rt; "E37 seconds {n} up to {m}"),
+        Err(refusal) => println!(rt; "E37 seconds {n} refused {refusal}"),
     }
 }
 

@@ -11,13 +11,13 @@ pub fn plan(form: Form, price: u64, fee: u64, volume: u64) -> Plan
         × (result.fee ≡ fee) × (result.volume ≡ volume) }
 {
     Plan {
-        form: form,
+        form,
         start: 181,
         pergb: price,
         perminute: 0,
         persms: 0,
-        fee: fee,
-        volume: volume,
+        fee,
+        volume,
     }
 }
 
@@ -25,18 +25,19 @@ pub fn plan(form: Form, price: u64, fee: u64, volume: u64) -> Plan
 pub fn open_line(rt: &impl Print, name: &str, fee: u64, cap: u64, volume: u64) -> io::Result<()>
     requires { BundleFits fee cap volume }
 {
-    let form = Form::Bundle;
-    if tariff::plans::is_open(form, fee, cap, volume) {
-        return println!(rt; "{name} open");
-    }
-    println!(rt; "{name} closed")
+    let told = if tariff::plans::is_open(Form::Bundle, fee, cap, volume) {
+        "open"
+    } else {
+        "closed"
+    };
+    println!(rt; "{name} {told}")
 }
 
 // A zone data limit.
 pub fn limit_line(rt: &impl Print, name: &str, l: Allowance) -> io::Result<()> {
     match l {
-        Allowance::NoLimit => println!(rt; "{name} limit none"),
-        Allowance::Kilobytes(n) => println!(rt; "{name} limit {n}"),
+        None => println!(rt; "{name} limit none"),
+        Some(n) => println!(rt; "{name} limit {n}"),
     }
 }
 
@@ -55,17 +56,21 @@ pub fn split_line(
     println!(rt; "{name} kB {n} priced {priced} surcharged {surcharged}")
 }
 
+// kept: bounds of the three prices are a clause of four functions. A plan has any numbers (`plan_with`), and a type with
+// the bounds in it would stand for the same seven numbers in the examples alone.
+
 // Home charges of the month's first n kB.
+#[tactic(auto, using(tariff::proofs::ChargeLaws::billed_bounded, tariff::proofs::ChargeLaws::home_charges_bounded))]
 fn home_points(p: Plan, n: u64) -> u64
     requires { (p.pergb ≤ 1000000) × (p.perminute ≤ 1000000) × (p.persms ≤ 1000000) × (n ≤ 1000000000) }
     ensures { result ≤ 2000000000000000000 }
 {
-    let form = p.form;
-    let kb = tariff::charges::billed_of(form, p.volume, 0, n);
+    let kb = tariff::charges::billed_of(p.form, p.volume, 0, n);
     tariff::charges::home_of(p, tariff::amounts::only_of(Kind::Data, kb))
 }
 
 // Surcharges of the first n zone kB.
+#[tactic(auto, using(tariff::proofs::ChargeLaws::after_allowance_bounded, tariff::proofs::ChargeLaws::surcharges_bounded))]
 fn surcharge_points(l: Allowance, cap: u64, n: u64) -> u64
     requires { (cap ≤ 1000000) × (n ≤ 1000000000) }
     ensures { result ≤ 2000000000000000000 }
@@ -74,13 +79,6 @@ fn surcharge_points(l: Allowance, cap: u64, n: u64) -> u64
     let rate = tariff::amounts::only_of(Kind::Data, cap);
     let basis = tariff::amounts::times(rate, tariff::amounts::only_of(Kind::Data, kb));
     tariff::charges::surcharges_from(basis)
-}
-
-fn growth(before: u64, after: u64) -> u64 {
-    if after < before {
-        return 0;
-    }
-    after - before
 }
 
 // What a use of n zone kB takes, after m others of the month.
@@ -96,8 +94,8 @@ pub fn use_line(
     requires { (p.pergb ≤ 1000000) × (p.perminute ≤ 1000000) × (p.persms ≤ 1000000) × (cap ≤ 1000000)
         × (m + n ≤ 1000000000) }
 {
-    let home = growth(home_points(p, m), home_points(p, m + n));
-    let extra = growth(surcharge_points(l, cap, m), surcharge_points(l, cap, m + n));
+    let home = home_points(p, m + n).saturating_sub(home_points(p, m));
+    let extra = surcharge_points(l, cap, m + n).saturating_sub(surcharge_points(l, cap, m));
     println!(rt; "{name} use {n} home {home} extra {extra}")
 }
 

@@ -1,7 +1,7 @@
 // Prepaid credits of source 000, at a cap of 970 lek per GB.
 use super::lines::{cost_line, credit_line, limit_line, plan, use_line};
 use account::Account;
-use state::Answer;
+use state::Outcome;
 use std::io;
 use tariff::{Form, Kind};
 
@@ -12,14 +12,11 @@ fn afford_line(rt: &impl Print, name: &str, price: u64, credit: u32) -> io::Resu
     let mut calls = [0u8; 16];
     words::put_words(&mut calls, &coded);
     let ready = replay::replay(&calls, opened.account);
-    let account = ready.account;
-    let r = account.afford(Kind::Data);
-    let answer = r.answer;
-    match answer {
-        Answer::UpTo(n) => println!(rt; "{name} afford {n}"),
-        Answer::Refused(n) => println!(rt; "{name} refused {n}"),
-        Answer::Done => println!(rt; "{name} done"),
-        Answer::Charged(_) => println!(rt; "{name} charged"),
+    match ready.account.afford(Kind::Data).answer {
+        Ok(Outcome::UpTo(n)) => println!(rt; "{name} afford {n}"),
+        Ok(Outcome::Done) => println!(rt; "{name} done"),
+        Ok(Outcome::Charged(_)) => println!(rt; "{name} charged"),
+        Err(refusal) => println!(rt; "{name} refused {refusal}"),
     }
 }
 

@@ -7,8 +7,7 @@ use tariff::Form;
 
 // An account whose limit is above all that the examples use.
 fn fresh() -> Account {
-    let r = Account::open(plan(Form::Unlimited, 0, 900000, 0));
-    r.account
+    Account::open(plan(Form::Unlimited, 0, 900000, 0)).account
 }
 
 // The account once more, since a call takes it as a value.
@@ -22,19 +21,18 @@ pub fn copied(a: &Account) -> Account {
 // The calls of a calls section n times; fewer if one is refused.
 pub fn again(a: &Account, calls: &[u8], n: u64) -> Account {
     let mut held = copied(a);
-    let mut i: u64 = 0;
-    while i < n {
-        let r = replay::replay(calls, held);
-        held = r.account;
-        if r.refused > 0 {
-            return held;
+    for _ in 0..n {
+        let done = replay::replay(calls, held);
+        held = done.account;
+        if done.refused > 0 {
+            break;
         }
-        i += 1;
     }
     held
 }
 
 // n days, each with a registration (0 home, 1 zone) and a use of data there.
+// kept: the place is the number that stands beside the code in a body of calls.
 fn days(a: &Account, place: u32, kb: u32, n: u64) -> Account {
     let coded = [1u32, place, 2, kb, 7, 0];
     let mut calls = [0u8; 24];

@@ -2,57 +2,51 @@
 // each: `file` and its number, or the nine figures, where a limit of none is the word `none`.
 #![tactic(auto)]
 
-ghost use Rattle.std.specs.Prelude.{◌<◌, ◌≤◌, length};
-
-use report::{Figures, Report};
-use std::io;
+use report::Figures;
+use std::{fmt, io};
 use tariff::Allowance;
 
-fn limit_figure(rt: &impl Print, l: Allowance) -> io::Result<()> {
-    match l {
-        Allowance::NoLimit => print!(rt; " none"),
-        Allowance::Kilobytes(n) => print!(rt; " {n}"),
+#[derive(Drop)]
+// kept: `explain` has it, too; the two programs share no crate that prints
+struct Limit(Allowance);
+
+impl fmt::Display for Limit {
+    fn fmt<W: fmt::Write>(&self, f: &mut fmt::Formatter<W>) -> fmt::Result {
+        match self.0 {
+            Some(n) => write!(f, "{n}"),
+            None => f.write_str("none"),
+        }
     }
 }
 
 fn nine(rt: &impl Print, f: Figures) -> io::Result<()> {
-    print!(rt; "{} {} {} {} {}", f.day, f.paid, f.credit, f.home, f.extra)?;
-    limit_figure(rt, f.limit)?;
-    println!(rt; " {} {} {}", f.roamed, f.past, f.refused)
-}
-
-fn show(rt: &impl Print, r: Report) -> io::Result<()> {
-    match r {
-        Report::Lines(f) => nine(rt, f),
-        Report::Refused(n) => println!(rt; "file {n}"),
-    }
-}
-
-fn wide(x: u8) -> usize
-    ensures { result < 256 }
-{
-    x as usize
-}
-
-// The length that stands before a file, which starts at `at`.
-fn length_of(s: &[u8], at: usize) -> usize
-    requires { (4 ≤ at) × (at ≤ length s.now) }
-{
-    wide(s[at - 4]) + 256 * wide(s[at - 3]) + 65536 * wide(s[at - 2])
+    println!(rt;
+        "{} {} {} {} {} {} {} {} {}",
+        f.day,
+        f.paid,
+        f.credit,
+        f.home,
+        f.extra,
+        Limit(f.limit),
+        f.roamed,
+        f.past,
+        f.refused
+    )
 }
 
 // Each stored file, up to one that is cut off.
-fn run_cases(rt: &impl Print, s: &[u8]) -> io::Result<()> {
-    let mut at: usize = 0;
-    while 4 <= s.len() - at {
-        let a = at + 4;
-        let n = length_of(s, a);
-        if n > s.len() - a {
+fn run_cases(rt: &impl Print, cases: &[u8]) -> io::Result<()> {
+    let mut rest = cases;
+    while let Some(([a, b, c, _], behind)) = rest.split_first_chunk::<4>() {
+        let n = u32::from_le_bytes([*a, *b, *c, 0]) as usize;
+        let Some((file, next)) = behind.split_at_checked(n) else {
             return Ok(());
+        };
+        match report::statement_of(file) {
+            Ok(figures) => nine(rt, figures)?,
+            Err(refusal) => println!(rt; "file {refusal}")?,
         }
-        let e = a + n;
-        show(rt, report::statement_of(&s[a..e]))?;
-        at = e;
+        rest = next;
     }
     Ok(())
 }

@@ -1,6 +1,6 @@
 -- Laws of the decimal text of a number. Assumes nothing.
 use mathlib.Core.Path.{◌≡◌, refl, sym, ◌∙◌, ap}
-use Prim.Native.Nat.{ℕ, zero, suc, ◌+◌, ◌-◌, ◌*◌, ◌/◌, ◌%◌, ◌^◌, ◌≤◌, ◌<◌}
+use Prim.Native.Nat.{ℕ, zero, suc, ◌+◌, ◌-◌, ◌*◌, ◌/◌, ◌%◌, ◌^◌, ◌≤◌, ◌<◌, max}
 use mathlib.Core.Bool.{Bool, true, false, ◌&&◌}
 use mathlib.Core.List.{List, [], ◌∷◌, ◌++◌, append_assoc, append-nil}
 use native.Mathlib.Omega.{arith}
@@ -66,6 +66,18 @@ length_small n h = ap length (decimal_small n h)
 
 pub length_more : (n : ℕ) → 10 ≤ n → length (decimal n) ≡ length (decimal (n / 10)) + 1
 length_more n h = ap length (decimal_more n h) ∙ length-append (decimal (n / 10)) (digit (n % 10) ∷ [])
+
+-- a number from 10 ^ k up to 10 ^ (k + 1) has k + 1 digits
+length_by_power : (n k : ℕ) → 10 ^ k ≤ n → n < 10 * 10 ^ k → length (decimal n) ≡ k + 1
+length_by_power n zero h l = omega (arith, length_small n (omega arith))
+length_by_power n (suc k) h l =
+    let p : 10 ^ suc k ≡ 10 * 10 ^ k = omega arith in
+    omega (arith, length_more n (omega arith), length_by_power (n / 10) k (omega arith) (omega arith))
+
+-- and 0 has as many as 1
+pub length_by_log : (n k : ℕ) → 10 ^ k ≤ max n 1 → max n 1 < 10 * 10 ^ k → k + 1 ≡ length (decimal n)
+length_by_log zero k h l = omega (arith, length_by_power 1 k (omega arith) (omega arith), length_small 0 (omega arith), length_small 1 (omega arith))
+length_by_log (suc n) k h l = omega (arith, length_by_power (suc n) k (omega arith) (omega arith))
 
 -- a number below 10 ^ (k + 1) has k + 1 digits at most
 few_digits : (k n : ℕ) → n < 10 * 10 ^ k → length (decimal n) ≤ k + 1

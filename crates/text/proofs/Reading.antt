@@ -1,5 +1,5 @@
 -- Laws of digits that are read byte by byte. Assumes nothing.
-use mathlib.Core.Path.{◌≡◌, refl, ◌∙◌, ap}
+use mathlib.Core.Path.{◌≡◌, refl, sym, ◌∙◌, ap}
 use Prim.Native.Nat.{ℕ, suc, ◌+◌, ◌-◌, ◌*◌, ◌≤◌, ◌<◌, min}
 use mathlib.Core.Bool.{Bool, true, false, ◌&&◌}
 use mathlib.Core.List.{List, [], ◌∷◌}
@@ -7,10 +7,15 @@ use native.Mathlib.Numerals.{add-one}
 use native.Mathlib.Omega.{arith}
 use lib.ListN.{length, get_or, drop, drop_of_length-le}
 use lib.Seq.{drop-cons}
-use lib.Dec.{leb, ltb}
+use lib.Dec.{leb}
 use Rattle.text.specs.Text.{digit}
 use Rattle.text.specs.Claims.{read_on}
-use Rattle.text.specs.Reading.{all_digits, no_leading_zero}
+use Rattle.text.specs.declared.Figure.{Figure}
+use Rattle.text.specs.Reading.{all_digits, no_leading_zero, figure_of}
+
+-- a figure of a value and whether it is right
+abbrev pub figure : ℕ → Bool → Figure
+figure v r = record { value = v; right = r }
 
 -- the largest number that is told from larger ones
 abbrev pub held : ℕ → ℕ
@@ -52,19 +57,12 @@ digits_end ds r i h = ap (λ (x : List ℕ). r && all_digits x) (drop_of_length-
     and-true true = refl
     and-true false = refl
 
-pub begins_none : (ds : List ℕ) → length ds ≡ 0 → no_leading_zero ds ≡ false
-unfolding no_leading_zero
-begins_none [] h = refl
-begins_none (d ∷ ds) h = absurd (omega arith)
-
-pub begins_one : (ds : List ℕ) → length ds ≡ 1 → no_leading_zero ds ≡ true
-unfolding no_leading_zero
-begins_one [] h = absurd (omega arith)
-begins_one (d ∷ []) h = refl
-begins_one (d ∷ e ∷ ds) h = absurd (omega arith)
-
-pub begins_more : (ds : List ℕ) → 2 ≤ length ds → no_leading_zero ds ≡ ltb 48 (get_or ds 0 0)
-unfolding no_leading_zero
-begins_more [] h = absurd (omega arith)
-begins_more (d ∷ []) h = absurd (omega arith)
-begins_more (d ∷ e ∷ ds) h = refl
+-- what is known where all bytes are read, with whether they begin as a number's text does
+pub figure_read : (ds : List ℕ) (v : ℕ) (r : Bool) (i : ℕ) → length ds ≤ i → v ≤ 4294967296
+    → held (read_on v (drop i ds)) ≡ held (read_on 0 ds) → (r && all_digits (drop i ds)) ≡ all_digits ds
+    → figure v (r && no_leading_zero ds) ≡ figure_of ds
+unfolding figure_of
+figure_read ds v r i h w e f =
+    let value : v ≡ held (read_on 0 ds) = omega (arith, value_all ds v i h, e) in
+    let right : r ≡ all_digits ds = sym (digits_end ds r i h) ∙ f in
+    rw (value, right)

@@ -3,48 +3,28 @@ use mathlib.Core.Path.{◌≡◌, refl, sym, ◌∙◌, ap}
 use mathlib.Core.Bool.{Bool, true, false, cond, ◌||◌, not}
 use mathlib.Core.List.{List, [], ◌∷◌}
 use Prim.Native.Nat.{ℕ, zero, suc, ◌+◌, ◌≤◌, ◌<◌}
-use native.Mathlib.Numerals.{add-one}
 use native.Mathlib.Nat.{zero-add}
 use native.Mathlib.Omega.{arith}
-use lib.ListN.{length, get_or, take, drop, set, length-set}
-use lib.Seq.{drop-nil, take_all}
+use lib.ListN.{length, get_or, take, set}
+use lib.Seq.{take_all}
 use lib.Dec.{ltb}
 use borrow.Author.Tests.{lt-ltb, le-ltb, ltb-false, leb-true}
 use Rattle.tripfile.specs.Bodies.{codes_of, numbers_of}
 use Rattle.tripfile.proofs.Listed.{length_codes, length-numbers}
-use Rattle.tariff.specs.declared.Verdict.TheVariants as Told
 use Rattle.tariff.specs.Tests.{verdict_of}
-use Rattle.textlines.specs.declared.TextRead.{TextRead}
-use Rattle.textlines.specs.declared.TextRead.TheVariants.{Calls, BadLine, Refused}
+use Rattle.textlines.specs.declared.TextError.{TextError}
+use Rattle.textlines.specs.declared.TextError.TheVariants.{BadLine, Refused}
 use Rattle.text.specs.Text.{placed}
-use Rattle.text.proofs.Placing.{placed_none, put_more}
+use Rattle.text.proofs.Placing.{put_more}
 use Rattle.textlines.specs.Line.{code_in, number_in, call_in}
 use Rattle.textlines.specs.Text.{lines_of, right_lines, calls_in, calls_of, size_right, reading_reasons, reading_answer, reading_of}
-use Rattle.textlines.proofs.Split.{no_lines}
+use Rattle.std.specs.Prelude.{Result, Ok, Err}
+use Rattle.tariff.specs.declared.Refusal.TheVariants.{NoRoom, TextLength, LineForm}
 
 pub length_calls : (ls : List (List ℕ)) → length (calls_in ls) ≡ length ls
 unfolding calls_in
 length_calls [] = refl
 length_calls (l ∷ ls) = ap suc (length_calls ls)
-
--- the element where the rest of a list begins
-record Head (X : List ℕ) (i x : ℕ) (r : List ℕ) : Type 0 where
-  pub within : i < length X
-  pub is : get_or X i 0 ≡ x
-  pub rest : drop (i + 1) X ≡ r
-
-head_of : (X : List ℕ) (i x : ℕ) (r : List ℕ) → drop i X ≡ x ∷ r → Head X i x r
-head_of [] i x r e =
-    let z : ◌≡◌ {A = List ℕ} [] (x ∷ r) = sym (drop-nil i) ∙ e in
-    absurd (omega (arith, ap (length {A = ℕ}) z))
-head_of (y ∷ X) zero x r e = record { within = omega arith; is = cc; rest = cc }
-head_of (y ∷ X) (suc i) x r e =
-    let h = head_of X i x r e in
-    record {
-      within = omega (arith, h.within);
-      is = h.is;
-      rest = rw (add-one (suc i)) (ap (λ (k : ℕ). drop k X) (sym (add-one i)) ∙ h.rest);
-    }
 
 -- one element more of X stored into s
 pub fill_step : (X s s₀ : List ℕ) (i x : ℕ) → s ≡ placed s₀ 0 (take i X) → i < length X → length X ≤ length s₀ → get_or X i 0 ≡ x
@@ -54,102 +34,79 @@ fill_step X s s₀ i x e l m g =
     ∙ (ap (λ (y : ℕ). set (placed s₀ 0 (take i X)) i y) (sym g)
     ∙ (ap (λ (k : ℕ). set (placed s₀ 0 (take i X)) k (get_or X i 0)) (sym (zero-add i)) ∙ put_more s₀ 0 X i (omega arith) l))
 
--- after the first i lines, which end at a place
-pub record Filling (t cs₀ ns₀ cs ns : List ℕ) (i at : ℕ) : Type 0 where
-  pub within : at ≤ length t
-  pub few : i ≤ at
-  pub many_codes : length cs ≡ length cs₀
-  pub many_numbers : length ns ≡ length ns₀
-  pub count : i + length (lines_of (drop at t)) ≡ length (lines_of t)
-  pub codes_left : drop i (codes_of (calls_of t)) ≡ codes_of (calls_in (lines_of (drop at t)))
-  pub numbers_left : drop i (numbers_of (calls_of t)) ≡ numbers_of (calls_in (lines_of (drop at t)))
-  pub codes_done : cs ≡ placed cs₀ 0 (take i (codes_of (calls_of t)))
-  pub numbers_done : ns ≡ placed ns₀ 0 (take i (numbers_of (calls_of t)))
+-- ---- the call of each line
 
-pub begun : (t cs ns : List ℕ) → Filling t cs ns cs ns 0 0
+code_at : (ls : List (List ℕ)) (k : ℕ) (d : List ℕ) → k < length ls → get_or (codes_of (calls_in ls)) k 0 ≡ code_in (get_or ls k d)
+unfolding calls_in codes_of call_in
+code_at [] k d h = absurd (omega arith)
+code_at (l ∷ ls) zero d h = refl
+code_at (l ∷ ls) (suc k) d h = code_at ls k d (omega arith)
+
+number_at : (ls : List (List ℕ)) (k : ℕ) (d : List ℕ) → k < length ls → get_or (numbers_of (calls_in ls)) k 0 ≡ number_in (code_in (get_or ls k d)) (get_or ls k d)
+unfolding calls_in numbers_of call_in
+number_at [] k d h = absurd (omega arith)
+number_at (l ∷ ls) zero d h = refl
+number_at (l ∷ ls) (suc k) d h = number_at ls k d (omega arith)
+
+count_codes : (t : List ℕ) → length (codes_of (calls_of t)) ≡ length (lines_of t)
 unfolding calls_of
-begun t cs ns = record {
-  within = omega arith;
-  few = omega arith;
-  many_codes = refl;
-  many_numbers = refl;
-  count = omega arith;
-  codes_left = refl;
-  numbers_left = refl;
-  codes_done = sym (placed_none cs 0);
-  numbers_done = sym (placed_none ns 0);
-}
+count_codes t = length_codes (calls_in (lines_of t)) ∙ length_calls (lines_of t)
 
-pub filled_more : {t cs₀ ns₀ cs ns : List ℕ} {i at : ℕ} → Filling t cs₀ ns₀ cs ns i at → length (lines_of t) ≤ length cs₀ → length (lines_of t) ≤ length ns₀
-    → (l : List ℕ) (r code number : ℕ) → at < r → r ≤ length t → lines_of (drop at t) ≡ l ∷ lines_of (drop r t)
-    → code ≡ code_in l → number ≡ number_in code l
-    → Filling t cs₀ ns₀ (set cs i code) (set ns i number) (i + 1) r
-unfolding calls_of calls_in codes_of numbers_of call_in
-filled_more {t = t} {cs₀ = cs₀} {ns₀ = ns₀} {cs = cs} {ns = ns} {i = i} {at = at} f hc hn l r code number h k e ec en =
-    let C = codes_of (calls_of t) in
-    let N = numbers_of (calls_of t) in
-    let n : number ≡ number_in (code_in l) l = en ∙ ap (λ (x : ℕ). number_in x l) ec in
-    let c : Head C i (code_in l) (codes_of (calls_in (lines_of (drop r t)))) =
-    head_of C i (code_in l) (codes_of (calls_in (lines_of (drop r t)))) (f.codes_left ∙ ap (λ (x : List (List ℕ)). codes_of (calls_in x)) e) in
-    let m : Head N i (number_in (code_in l) l) (numbers_of (calls_in (lines_of (drop r t)))) =
-    head_of N i (number_in (code_in l) l) (numbers_of (calls_in (lines_of (drop r t)))) (f.numbers_left ∙ ap (λ (x : List (List ℕ)). numbers_of (calls_in x)) e) in
-    let z = ap length e in
-    let lc : length C ≡ length (lines_of t) = length_codes (calls_of t) ∙ length_calls (lines_of t) in
-    let ln : length N ≡ length (lines_of t) = length-numbers (calls_of t) ∙ length_calls (lines_of t) in
-    record {
-      within = k;
-      few = omega (arith, f.few);
-      many_codes = length-set cs i code ∙ f.many_codes;
-      many_numbers = length-set ns i number ∙ f.many_numbers;
-      count = omega (arith, f.count);
-      codes_left = c.rest;
-      numbers_left = m.rest;
-      codes_done = fill_step C cs cs₀ i code f.codes_done c.within (omega arith) (c.is ∙ sym ec);
-      numbers_done = fill_step N ns ns₀ i number f.numbers_done m.within (omega arith) (m.is ∙ sym n);
-    }
-
-pub filled_all : {t cs₀ ns₀ cs ns : List ℕ} {i at : ℕ} → Filling t cs₀ ns₀ cs ns i at → length t ≤ at
-    → (cs ≡ placed cs₀ 0 (codes_of (calls_of t))) × (ns ≡ placed ns₀ 0 (numbers_of (calls_of t)))
+count_numbers : (t : List ℕ) → length (numbers_of (calls_of t)) ≡ length (lines_of t)
 unfolding calls_of
-filled_all {t = t} {cs₀ = cs₀} {ns₀ = ns₀} {cs = cs} {ns = ns} {i = i} {at = at} f h =
-    let C = codes_of (calls_of t) in
-    let N = numbers_of (calls_of t) in
-    let z : length (lines_of (drop at t)) ≡ 0 = ap length (no_lines t at h) in
-    let e : i ≡ length (lines_of t) = omega (arith, f.count) in
-    let lc : length C ≡ length (lines_of t) = length_codes (calls_of t) ∙ length_calls (lines_of t) in
-    let ln : length N ≡ length (lines_of t) = length-numbers (calls_of t) ∙ length_calls (lines_of t) in (
-      f.codes_done ∙ ap (placed cs₀ 0) (take_all i C (omega arith)),
-      f.numbers_done ∙ ap (placed ns₀ 0) (take_all i N (omega arith)),
-    )
+count_numbers t = length-numbers (calls_in (lines_of t)) ∙ length_calls (lines_of t)
+
+-- a line's code and number stored after those of the k lines before it
+module _ (t s s₀ : List ℕ) (k : ℕ) (l : List ℕ) (code : ℕ) (within : k < length (lines_of t)) (room : length (lines_of t) ≤ length s₀) (is : l ≡ get_or (lines_of t) k l)
+    (e : code ≡ code_in l) where
+  pub code_put : s ≡ placed s₀ 0 (take k (codes_of (calls_of t))) → set s k code ≡ placed s₀ 0 (take (k + 1) (codes_of (calls_of t)))
+  unfolding calls_of
+  code_put h =
+      fill_step (codes_of (calls_of t)) s s₀ k code h (omega (arith, count_codes t)) (omega (arith, count_codes t))
+      (code_at (lines_of t) k l within ∙ (ap code_in (sym is) ∙ sym e))
+
+  pub number_put : (number : ℕ) → number ≡ number_in code l → s ≡ placed s₀ 0 (take k (numbers_of (calls_of t))) → set s k number ≡ placed s₀ 0 (take (k + 1) (numbers_of (calls_of t)))
+  unfolding calls_of
+  number_put number n h =
+      fill_step (numbers_of (calls_of t)) s s₀ k number h (omega (arith, count_numbers t)) (omega (arith, count_numbers t))
+      (number_at (lines_of t) k l within
+      ∙ (ap (λ (x : List ℕ). number_in (code_in x) x) (sym is) ∙ (ap (λ (c : ℕ). number_in c l) (sym e) ∙ sym n)))
+
+-- all of them
+pub codes_all : (t s₀ : List ℕ) (k : ℕ) → k ≡ length (lines_of t) → placed s₀ 0 (take k (codes_of (calls_of t))) ≡ placed s₀ 0 (codes_of (calls_of t))
+codes_all t s₀ k e = ap (placed s₀ 0) (take_all k (codes_of (calls_of t)) (omega (arith, count_codes t)))
+
+pub numbers_all : (t s₀ : List ℕ) (k : ℕ) → k ≡ length (lines_of t) → placed s₀ 0 (take k (numbers_of (calls_of t))) ≡ placed s₀ 0 (numbers_of (calls_of t))
+numbers_all t s₀ k e = ap (placed s₀ 0) (take_all k (numbers_of (calls_of t)) (omega (arith, count_numbers t)))
 
 -- ---- the answers
 
-abbrev chosen : ℕ → ℕ → Bool → Bool → Bool → TextRead
-chosen lines right x y z = reading_answer (cond x (Told.Refused 21) (cond y (Told.Refused 22) (cond z (Told.Refused 16) Told.Accepted))) lines right
+abbrev chosen : ℕ → ℕ → Bool → Bool → Bool → Result ℕ TextError
+chosen lines right x y z = reading_answer (cond x (Err TextLength) (cond y (Err LineForm) (cond z (Err NoRoom) (Ok tt)))) lines right
 
 pub chosen_is : (t : List ℕ) (a b lines right : ℕ) → lines ≡ length (lines_of t) → right ≡ right_lines (lines_of t) → (x y z : Bool)
     → not (size_right (length t) lines) ≡ x → ltb right lines ≡ y → (ltb a lines || ltb b lines) ≡ z → chosen lines right x y z ≡ reading_of t a b
 unfolding reading_of reading_reasons verdict_of
 chosen_is t a b lines right e f x y z ex ey ez =
-    let all : ℕ → ℕ → TextRead = λ n m. chosen n m (not (size_right (length t) n)) (ltb m n) (ltb a n || ltb b n) in
+    let all : ℕ → ℕ → Result ℕ TextError = λ n m. chosen n m (not (size_right (length t) n)) (ltb m n) (ltb a n || ltb b n) in
     ap (λ (u : Bool). chosen lines right u y z) (sym ex)
     ∙ (ap (λ (u : Bool). chosen lines right (not (size_right (length t) lines)) u z) (sym ey)
     ∙ (ap (λ (u : Bool). chosen lines right (not (size_right (length t) lines)) (ltb right lines) u) (sym ez)
     ∙ (ap (λ (n : ℕ). all n right) e ∙ ap (λ (m : ℕ). all (length (lines_of t)) m) f)))
 
-pub answers_21 : (t : List ℕ) (a b lines : ℕ) → lines ≡ length (lines_of t) → not (size_right (length t) lines) ≡ true → Refused 21 ≡ reading_of t a b
+pub answers_21 : (t : List ℕ) (a b lines : ℕ) → lines ≡ length (lines_of t) → not (size_right (length t) lines) ≡ true → Err (Refused TextLength) ≡ reading_of t a b
 answers_21 t a b lines e h = chosen_is t a b lines (right_lines (lines_of t)) e refl true _ _ h refl refl
 
 pub answers_22 : (t : List ℕ) (a b lines right : ℕ) → lines ≡ length (lines_of t) → right ≡ right_lines (lines_of t) → not (size_right (length t) lines) ≡ false
-    → right < lines → BadLine (right + 1) ≡ reading_of t a b
+    → right < lines → Err (BadLine (right + 1)) ≡ reading_of t a b
 answers_22 t a b lines right e f h l = chosen_is t a b lines right e f false true _ h (lt-ltb right lines l) refl
 
 pub answers_16 : (t : List ℕ) (a b lines right : ℕ) → lines ≡ length (lines_of t) → right ≡ right_lines (lines_of t) → not (size_right (length t) lines) ≡ false
-    → lines ≤ right → (ltb a lines || ltb b lines) ≡ true → Refused 16 ≡ reading_of t a b
+    → lines ≤ right → (ltb a lines || ltb b lines) ≡ true → Err (Refused NoRoom) ≡ reading_of t a b
 answers_16 t a b lines right e f h l s = chosen_is t a b lines right e f false false true h (le-ltb right lines l) s
 
 pub answers_calls : (t : List ℕ) (a b lines right : ℕ) → lines ≡ length (lines_of t) → right ≡ right_lines (lines_of t) → not (size_right (length t) lines) ≡ false
-    → lines ≤ right → (ltb a lines || ltb b lines) ≡ false → Calls lines ≡ reading_of t a b
+    → lines ≤ right → (ltb a lines || ltb b lines) ≡ false → Ok lines ≡ reading_of t a b
 answers_calls t a b lines right e f h l s = chosen_is t a b lines right e f false false false h (le-ltb right lines l) s
 
 pub neither : (a b c : ℕ) → (ltb a c || ltb b c) ≡ false → (c ≤ a) × (c ≤ b)

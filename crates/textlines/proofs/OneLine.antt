@@ -144,19 +144,18 @@ free_heading (suc (suc (suc (suc (suc (suc (suc zero))))))) =
     more refl (more refl (more refl (more refl (more refl (more refl (more refl (more refl none)))))))
 free_heading (suc (suc (suc (suc (suc (suc (suc (suc c)))))))) = more refl none
 
--- a code that has no name
-pub no_heading : (c : ℕ) → (c ≡ 1 → ⊥) → (c ≡ 2 → ⊥) → (c ≡ 3 → ⊥) → (c ≡ 4 → ⊥) → (c ≡ 5 → ⊥) → (c ≡ 6 → ⊥) → (c ≡ 7 → ⊥)
-    → heading c ≡ 44 ∷ []
+-- a heading has at most 9 bytes
+pub heading_few : (c : ℕ) → length (heading c) ≤ 9
 unfolding heading name
-no_heading zero h₁ h₂ h₃ h₄ h₅ h₆ h₇ = refl
-no_heading (suc zero) h₁ h₂ h₃ h₄ h₅ h₆ h₇ = absurd (h₁ refl)
-no_heading (suc (suc zero)) h₁ h₂ h₃ h₄ h₅ h₆ h₇ = absurd (h₂ refl)
-no_heading (suc (suc (suc zero))) h₁ h₂ h₃ h₄ h₅ h₆ h₇ = absurd (h₃ refl)
-no_heading (suc (suc (suc (suc zero)))) h₁ h₂ h₃ h₄ h₅ h₆ h₇ = absurd (h₄ refl)
-no_heading (suc (suc (suc (suc (suc zero))))) h₁ h₂ h₃ h₄ h₅ h₆ h₇ = absurd (h₅ refl)
-no_heading (suc (suc (suc (suc (suc (suc zero)))))) h₁ h₂ h₃ h₄ h₅ h₆ h₇ = absurd (h₆ refl)
-no_heading (suc (suc (suc (suc (suc (suc (suc zero))))))) h₁ h₂ h₃ h₄ h₅ h₆ h₇ = absurd (h₇ refl)
-no_heading (suc (suc (suc (suc (suc (suc (suc (suc c)))))))) h₁ h₂ h₃ h₄ h₅ h₆ h₇ = refl
+heading_few zero = omega arith
+heading_few (suc zero) = omega arith
+heading_few (suc (suc zero)) = omega arith
+heading_few (suc (suc (suc zero))) = omega arith
+heading_few (suc (suc (suc (suc zero)))) = omega arith
+heading_few (suc (suc (suc (suc (suc zero))))) = omega arith
+heading_few (suc (suc (suc (suc (suc (suc zero)))))) = omega arith
+heading_few (suc (suc (suc (suc (suc (suc (suc zero))))))) = omega arith
+heading_few (suc (suc (suc (suc (suc (suc (suc (suc c)))))))) = omega arith
 
 -- all of a line but its line feed
 abbrev pub body : Call → List ℕ

@@ -9,7 +9,6 @@ use lib.ListN.{length, get_or, take, drop, length-append, take-append-drop}
 use lib.Seq.{take_all, take-suc}
 use lib.Dec.{leb, eqb}
 use borrow.Author.Tests.{leb-true, ltb-false, eqb-true, eqb-false}
-use Rattle.tariff.specs.declared.Verdict.TheVariants.{Accepted}
 use Rattle.tariff.specs.Tests.{is_accepted}
 use Rattle.tariff.proofs.Tests.{first_fails, rest_accepts, not-false}
 use Rattle.tariff.proofs.Verdicts.{and_three}
@@ -20,6 +19,7 @@ use Rattle.text.specs.Text.{placed}
 use Rattle.text.proofs.Placing.{length-placed, placed_none, Put, put_next}
 use Rattle.textlines.specs.Line.{line}
 use Rattle.textlines.specs.Text.{text_of, export_reasons, export_verdict}
+use Rattle.std.specs.Prelude.{Ok}
 
 pub text_append : (xs ys : List Call) → text_of (xs ++ ys) ≡ text_of xs ++ text_of ys
 unfolding text_of
@@ -37,6 +37,11 @@ text_more cs ns i h l =
     let e : take (i + 1) xs ≡ take i xs ++ (call (get_or cs i 0) (get_or ns i 0) ∷ []) =
     ap (λ (k : ℕ). take k xs) (add-one i) ∙ (take-suc xs i (call 0 0) (omega (arith, length-paired cs ns h)) ∙ ap (λ (c : Call). take i xs ++ (c ∷ [])) (paired_at cs ns i h l)) in
     ap text_of e ∙ (text_append (take i xs) _ ∙ ap (λ (t : List ℕ). text_of (take i xs) ++ t) (text_one _))
+
+pub text_long_more : (cs ns : List ℕ) (i : ℕ) → length ns ≡ length cs → i < length cs
+    → length (text_of (take (i + 1) (paired cs ns))) ≡ length (text_of (take i (paired cs ns))) + length (line (call (get_or cs i 0) (get_or ns i 0)))
+text_long_more cs ns i h l =
+    ap length (text_more cs ns i h l) ∙ length-append (text_of (take i (paired cs ns))) (line (call (get_or cs i 0) (get_or ns i 0)))
 
 text_part : (xs : List Call) (i : ℕ) → length (text_of (take i xs)) ≤ length (text_of xs)
 text_part xs i =
@@ -86,6 +91,14 @@ module _ {cs ns b₀ b : List ℕ} {at i : ℕ} (p : Putting cs ns b₀ b at i) 
         };
       }
 
+  -- one call more, the next of the lists
+  pub put_turn : length (text_of (paired cs ns)) ≤ length b₀ → i < length cs → (code number : ℕ) → code ≡ get_or cs i 0 → number ≡ get_or ns i 0
+      → (b' : List ℕ) (at' : ℕ) → at' ≡ at + length (line (call code number)) → b' ≡ placed b at (line (call code number))
+      → Putting cs ns b₀ b' at' (i + 1)
+  put_turn m l code number ec en b' at' ea eb =
+      let e : line (call code number) ≡ line (call (get_or cs i 0) (get_or ns i 0)) = ap (λ (x : ℕ). line (call x number)) ec ∙ ap (λ (x : ℕ). line (call (get_or cs i 0) x)) en in
+      put_more m l b' at' (ea ∙ ap (λ (x : List ℕ). at + length x) e) (eb ∙ ap (placed b at) e)
+
   pub put_size : length cs ≤ i → at ≡ length (text_of (paired cs ns))
   put_size l = omega (arith, p.put.end, ap length (text_all cs ns i h l))
 
@@ -102,7 +115,7 @@ pub record Exports (cs ns : List ℕ) (room : ℕ) : Type 0 where
   pub short : length (text_of (paired cs ns)) ≤ 65536
   pub fits : length (text_of (paired cs ns)) ≤ room
 
-pub exports : (cs ns : List ℕ) (room : ℕ) → export_verdict cs ns room ≡ Accepted → Exports cs ns room
+pub exports : (cs ns : List ℕ) (room : ℕ) → export_verdict cs ns room ≡ (Ok tt) → Exports cs ns room
 unfolding export_verdict export_reasons
 exports cs ns room e =
     let h = ap is_accepted e in

@@ -9,15 +9,12 @@ use lib.Seq.{take_at}
 use lib.Dec.{leb, ltb}
 use borrow.Author.Tests.{leb-true, ltb-false, le-leb, le-ltb, eq-eqb, ne_eqb}
 use Rattle.words.specs.Words.{Words}
-use Rattle.tariff.specs.declared.Verdict.{Verdict}
-use Rattle.tariff.specs.declared.Verdict.TheVariants as Told
+use Rattle.std.proofs.lemmas.Result.{IfOk-at_ok}
 use Rattle.tariff.specs.Tests.{verdict_of}
 use Rattle.tariff.proofs.Tests.{and_left, and_right, and_both}
-use Rattle.tripfile.specs.declared.Written.TheVariants as Wrote
 use Rattle.tripfile.specs.Bodies.{Call, call_right, calls_right, paired, codes_of, numbers_of}
 use Rattle.tripfile.specs.Writing.{write_answer, filled_or_kept}
 use Rattle.tripfile.proofs.Listed.{length-paired, codes_paired, numbers_paired, paired_again, length_codes, length-numbers}
-use Rattle.textlines.specs.declared.TextRead.TheVariants.{Calls}
 use Rattle.text.specs.Text.{placed}
 use Rattle.textlines.specs.Line.{line, call_in, right_line}
 use Rattle.textlines.specs.Text.{text_of, lines_of, right_lines, calls_in, calls_of, size_right, reading_reasons, reading_answer, reading_of, export_reasons, export_verdict, exported_of, buffer_of}
@@ -26,6 +23,9 @@ use Rattle.textlines.proofs.OneLine.{number_held, call_back, line_back, call_of_
 use Rattle.textlines.proofs.Split.{lines_text, joined, joined_lines, right_yes, right_no, right_none, nothing}
 use Rattle.textlines.proofs.Filling.{length_calls, answers_calls, neither}
 use Rattle.textlines.proofs.Putting.{Exports, exports}
+use Rattle.std.specs.Prelude.{Result, Ok, Err, ⊤}
+use Rattle.tariff.specs.declared.Refusal.{Refusal}
+use Rattle.tariff.specs.declared.Refusal.TheVariants.{NoRoom, TextLength, LineForm}
 
 -- ---- one line
 
@@ -98,20 +98,20 @@ back cs ns room a b w x ha hb =
 
 -- an answer of n bytes is that of an accepted export
 record Answers (cs ns buf : List ℕ) (n : ℕ) : Type 0 where
-  pub accepted : export_verdict cs ns (length buf) ≡ Told.Accepted
+  pub accepted : export_verdict cs ns (length buf) ≡ (Ok tt)
   pub size : n ≡ length (text_of (paired cs ns))
 
-answers : (cs ns buf : List ℕ) (n : ℕ) → exported_of cs ns buf ≡ Wrote.Bytes n → Answers cs ns buf n
+answers : (cs ns buf : List ℕ) (n : ℕ) → exported_of cs ns buf ≡ Ok n → Answers cs ns buf n
 unfolding exported_of
 answers cs ns buf n h = go (export_verdict cs ns (length buf)) refl h
   where
-    go : (v : Verdict) → export_verdict cs ns (length buf) ≡ v → write_answer v (length (text_of (paired cs ns))) ≡ Wrote.Bytes n → Answers cs ns buf n
-    go Told.Accepted e g = record { accepted = e; size = cc }
-    go (Told.Refused r) e g = let z : ◌≡◌ {A = ℕ} 0 1 = cc in absurd (omega arith)
+    go : (v : Result ⊤ Refusal) → export_verdict cs ns (length buf) ≡ v → write_answer v (length (text_of (paired cs ns))) ≡ Ok n → Answers cs ns buf n
+    go (Ok tt) e g = record { accepted = e; size = IfOk-at_ok (λ (m : ℕ). m ≡ length (text_of (paired cs ns))) g refl }
+    go (Err r) e g = cc
 
-buffer_is : (cs ns buf : List ℕ) → export_verdict cs ns (length buf) ≡ Told.Accepted → buffer_of cs ns buf ≡ placed buf 0 (text_of (paired cs ns))
+buffer_is : (cs ns buf : List ℕ) → export_verdict cs ns (length buf) ≡ (Ok tt) → buffer_of cs ns buf ≡ placed buf 0 (text_of (paired cs ns))
 unfolding buffer_of
-buffer_is cs ns buf h = ap (λ (v : Verdict). filled_or_kept v (placed buf 0 (text_of (paired cs ns))) buf) h
+buffer_is cs ns buf h = ap (λ (v : Result ⊤ Refusal). filled_or_kept v (placed buf 0 (text_of (paired cs ns))) buf) h
 
 pub exported_reads_back : ExportedReadsBack
 exported_reads_back cs ns buf n a b w h ha hb =
@@ -150,18 +150,18 @@ pub record Tells (t : List ℕ) (a b n : ℕ) : Type 0 where
   pub short : length t ≤ 65536
   pub all : length (lines_of t) ≤ right_lines (lines_of t)
 
-pub read_tells : (t : List ℕ) (a b n : ℕ) → reading_of t a b ≡ Calls n → Tells t a b n
+pub read_tells : (t : List ℕ) (a b n : ℕ) → reading_of t a b ≡ Ok n → Tells t a b n
 unfolding reading_of reading_reasons verdict_of
 read_tells t a b n h =
     go (size_right (length t) (length (lines_of t))) refl (ltb (right_lines (lines_of t)) (length (lines_of t))) refl (ltb a (length (lines_of t)) || ltb b (length (lines_of t))) refl h
   where
     go : (x : Bool) → size_right (length t) (length (lines_of t)) ≡ x → (y : Bool) → ltb (right_lines (lines_of t)) (length (lines_of t)) ≡ y → (z : Bool) → (ltb a (length (lines_of t)) || ltb b (length (lines_of t))) ≡ z
-        → reading_answer (cond (not x) (Told.Refused 21) (cond y (Told.Refused 22) (cond z (Told.Refused 16) Told.Accepted))) (length (lines_of t)) (right_lines (lines_of t)) ≡ Calls n → Tells t a b n
-    go false e y f z k g = let w : ◌≡◌ {A = ℕ} 0 1 = cc in absurd (omega arith)
-    go true e true f z k g = let w : ◌≡◌ {A = ℕ} 0 1 = cc in absurd (omega arith)
-    go true e false f true k g = let w : ◌≡◌ {A = ℕ} 0 1 = cc in absurd (omega arith)
+        → reading_answer (cond (not x) (Err TextLength) (cond y (Err LineForm) (cond z (Err NoRoom) (Ok tt)))) (length (lines_of t)) (right_lines (lines_of t)) ≡ Ok n → Tells t a b n
+    go false e y f z k g = cc
+    go true e true f z k g = cc
+    go true e false f true k g = cc
     go true e false f false k g =
-        let c : length (lines_of t) ≡ n = cc in
+        let c : length (lines_of t) ≡ n = IfOk-at_ok (λ (m : ℕ). length (lines_of t) ≡ m) g refl in
         let r = neither a b (length (lines_of t)) k in
         let m = length (lines_of t) in
         let p = and_left (leb 1 m && leb m 8184) (leb (length t) 65536) e in
@@ -175,14 +175,14 @@ read_tells t a b n h =
         }
 
 export_accepted : (cs ns : List ℕ) (room : ℕ) → (length cs ≡ 0 → ⊥) → length cs ≤ 8184 → length ns ≡ length cs → calls_right (paired cs ns) ≡ true
-    → length (text_of (paired cs ns)) ≤ 65536 → length (text_of (paired cs ns)) ≤ room → export_verdict cs ns room ≡ Told.Accepted
+    → length (text_of (paired cs ns)) ≤ 65536 → length (text_of (paired cs ns)) ≤ room → export_verdict cs ns room ≡ (Ok tt)
 unfolding export_verdict export_reasons verdict_of
 export_accepted cs ns room c d e g h k =
     rw (ne_eqb (length cs) 0 c, le-leb (length cs) 8184 d, eq-eqb (length ns) (length cs) e, g, le-ltb 65536 (length (text_of (paired cs ns))) h, le-ltb room (length (text_of (paired cs ns))) k)
 
-exported_is : (cs ns buf : List ℕ) → export_verdict cs ns (length buf) ≡ Told.Accepted → exported_of cs ns buf ≡ Wrote.Bytes (length (text_of (paired cs ns)))
+exported_is : (cs ns buf : List ℕ) → export_verdict cs ns (length buf) ≡ (Ok tt) → exported_of cs ns buf ≡ Ok (length (text_of (paired cs ns)))
 unfolding exported_of
-exported_is cs ns buf h = ap (λ (v : Verdict). write_answer v (length (text_of (paired cs ns)))) h
+exported_is cs ns buf h = ap (λ (v : Result ⊤ Refusal). write_answer v (length (text_of (paired cs ns)))) h
 
 pub read_exports_again : ReadExportsAgain
 read_exports_again t buf a b n h room =
@@ -196,9 +196,9 @@ read_exports_again t buf a b n h room =
     let size : length (text_of (paired cs ns)) ≡ length t = ap length same in
     let lx : length xs ≡ length (lines_of t) = ap length e ∙ length_calls (lines_of t) in
     let lc = length_codes xs in
-    let ok : export_verdict cs ns (length buf) ≡ Told.Accepted =
+    let ok : export_verdict cs ns (length buf) ≡ (Ok tt) =
     export_accepted cs ns (length buf) (λ z. omega (arith, r.some)) (omega (arith, r.few)) (length-numbers xs ∙ sym lc) (ap calls_right (paired_again xs ∙ e) ∙ w.right) (omega (arith, r.short)) (omega arith) in
     record {
-      answer = exported_is cs ns buf ok ∙ ap Wrote.Bytes size;
+      answer = exported_is cs ns buf ok ∙ ap Ok size;
       bytes = buffer_is cs ns buf ok ∙ ap (placed buf 0) same;
     }

@@ -2,10 +2,9 @@
 use mathlib.Core.Path.{◌≡◌, refl, sym, ◌∙◌, ap}
 use mathlib.Core.Bool.{Bool, true, false}
 use mathlib.Core.List.{List, [], ◌∷◌, ◌++◌, append_assoc}
-use Prim.Native.Nat.{ℕ, zero, suc, ◌+◌, ◌-◌, ◌≤◌, ◌<◌}
+use Prim.Native.Nat.{ℕ, zero, suc, ◌<◌}
 use native.Mathlib.Omega.{arith}
-use lib.ListN.{length, get_or, take, drop, length-drop, drop_of_length-le}
-use lib.Seq.{take_all, drop-drop}
+use lib.ListN.{length, get_or, take, drop}
 use lib.Dec.{eqb}
 use borrow.Author.Tests.{eq-eqb}
 use Rattle.std.proofs.lemmas.Bool.{ne_eqb}
@@ -46,7 +45,7 @@ abbrev pub NoFeed : List ℕ → ℕ → Type 0
 NoFeed s e = (k : ℕ) → k < e → get_or s k 0 ≡ 10 → ⊥
 
 -- a line that ends in a line feed
-first_ended : (s : List ℕ) (e : ℕ) → NoFeed s e → e < length s → get_or s e 0 ≡ 10
+pub first_ended : (s : List ℕ) (e : ℕ) → NoFeed s e → e < length s → get_or s e 0 ≡ 10
     → lines_of s ≡ take (suc e) s ∷ lines_of (drop (suc e) s)
 first_ended [] e f l h = absurd (omega arith)
 first_ended (x ∷ s) zero f l h = lines_feed s x (eq-eqb x 10 h)
@@ -59,27 +58,10 @@ first_unended x [] f = lines_other [] x (ne_eqb x 10 (f 0 (omega arith))) ∙ ap
 first_unended x (y ∷ s) f =
     lines_other (y ∷ s) x (ne_eqb x 10 (f 0 (omega arith))) ∙ ap (onto x) (first_unended y s (λ k m. f (suc k) (omega arith)))
 
--- what `&t[at..]` lends
-pub rest_all : (t : List ℕ) (at : ℕ) → take (length t - at) (drop at t) ≡ drop at t
-rest_all t at = take_all (length t - at) (drop at t) (simp length-drop (omega arith))
-
-pub ended_at : (t : List ℕ) (at e : ℕ) → NoFeed (drop at t) e → at + e < length t → get_or (drop at t) e 0 ≡ 10
-    → lines_of (drop at t) ≡ take (at + e + 1 - at) (drop at t) ∷ lines_of (drop (at + e + 1) t)
-ended_at t at e f l h =
-    let k : at + e + 1 - at ≡ suc e = omega arith in
-    let j : at + e + 1 ≡ at + suc e = omega arith in
-    rw (k, j, ← drop-drop (suc e) at t) (first_ended (drop at t) e f (omega (arith, length-drop at t)) h)
-
-pub unended_at : (t : List ℕ) (at e : ℕ) → NoFeed (drop at t) e → at < length t → length t ≤ at + e → e ≤ length (drop at t)
-    → lines_of (drop at t) ≡ take (at + e - at) (drop at t) ∷ lines_of (drop (at + e) t)
-unended_at t at e f l m n =
-    let long = length-drop at t in
-    let k : e ≡ length (drop at t) = omega arith in
-    rw (take_all (at + e - at) (drop at t) (omega arith), drop_of_length-le t m, nothing) (one (drop at t) (omega arith) (rw k at f))
-  where
-    one : (s : List ℕ) → 0 < length s → NoFeed s (length s) → lines_of s ≡ s ∷ []
-    one [] h g = absurd (omega arith)
-    one (x ∷ s) h g = first_unended x s g
+-- a text without one is its last line
+pub whole_line : (s : List ℕ) → 0 < length s → NoFeed s (length s) → lines_of s ≡ s ∷ []
+whole_line [] h g = absurd (omega arith)
+whole_line (x ∷ s) h g = first_unended x s g
 
 -- ---- the lines together are the text
 
@@ -101,10 +83,7 @@ joined_lines (b ∷ bs) = go (eqb b 10) refl (joined_lines bs)
     go true e ih = ap joined (lines_feed bs b e) ∙ ap (λ (x : List ℕ). b ∷ x) ih
     go false e ih = ap joined (lines_other bs b e) ∙ (joined_onto b (lines_of bs) ∙ ap (λ (x : List ℕ). b ∷ x) ih)
 
--- ---- the lines after a place
-
-pub no_lines : (t : List ℕ) (at : ℕ) → length t ≤ at → lines_of (drop at t) ≡ []
-no_lines t at l = ap lines_of (drop_of_length-le t l) ∙ nothing
+-- ---- right lines
 
 pub right_yes : (l : List ℕ) (ls : List (List ℕ)) → right_line l ≡ true → right_lines (l ∷ ls) ≡ suc (right_lines ls)
 unfolding right_lines

@@ -1,11 +1,9 @@
 -- What a line of the form is, and both round trips of a text (lines-1, lines-3, lines-7, lines-8), of the definitions
 -- that the contracts of `read` and `export` cite. Assumes nothing.
-use Rattle.std.specs.Prelude.{ℕ, ◌^◌, ◌≤◌, ◌<◌, ◌≡◌, true, List, length, take}
+use Rattle.std.specs.Prelude.{ℕ, ◌^◌, ◌≤◌, ◌<◌, ◌≡◌, true, List, length, take, Ok}
 use Rattle.words.specs.Words.{Words}
 use Rattle.text.specs.Text.{placed}
-use Rattle.tripfile.specs.declared.Written.TheVariants as Wrote
 use Rattle.tripfile.specs.Bodies.{Call, call_right, codes_of, numbers_of}
-use Rattle.textlines.specs.declared.TextRead.TheVariants.{Calls}
 use Rattle.textlines.specs.Line.{line, call_in, right_line}
 use Rattle.textlines.specs.Text.{calls_of, reading_of, exported_of, buffer_of}
 
@@ -34,7 +32,7 @@ LineIsRight = (c : Call) → HasLine c → ReadsAsCall c
 
 -- lines-7: a text reads as the calls of the codes cs and the numbers ns, with room for a codes and b numbers
 pub record ReadsAs (t : List ℕ) (a b : ℕ) (cs ns : List ℕ) : Type 0 where
-  pub answer : reading_of t a b ≡ Calls (length cs)
+  pub answer : reading_of t a b ≡ Ok (length cs)
   pub codes : codes_of (calls_of t) ≡ cs
   pub numbers : numbers_of (calls_of t) ≡ ns
 
@@ -42,15 +40,15 @@ pub record ReadsAs (t : List ℕ) (a b : ℕ) (cs ns : List ℕ) : Type 0 where
 -- in all lists with room for them
 abbrev pub ExportedReadsBack : Type 0
 ExportedReadsBack =
-    (cs ns buf : List ℕ) (n a b : ℕ) → Words ns → exported_of cs ns buf ≡ Wrote.Bytes n → length cs ≤ a → length cs ≤ b
+    (cs ns buf : List ℕ) (n a b : ℕ) → Words ns → exported_of cs ns buf ≡ Ok n → length cs ≤ a → length cs ≤ b
     → ReadsAs (take n (buffer_of cs ns buf)) a b cs ns
 
 -- lines-8: the calls of a text, exported into a buffer, put the text there byte by byte, and the bytes after it stay
 pub record ExportsAs (t buf : List ℕ) : Type 0 where
-  pub answer : exported_of (codes_of (calls_of t)) (numbers_of (calls_of t)) buf ≡ Wrote.Bytes (length t)
+  pub answer : exported_of (codes_of (calls_of t)) (numbers_of (calls_of t)) buf ≡ Ok (length t)
   pub bytes : buffer_of (codes_of (calls_of t)) (numbers_of (calls_of t)) buf ≡ placed buf 0 t
 
 -- lines-8: so it is with every text that was read, in all buffers with room for it
 abbrev pub ReadExportsAgain : Type 0
 ReadExportsAgain =
-    (t buf : List ℕ) (a b n : ℕ) → reading_of t a b ≡ Calls n → length t ≤ length buf → ExportsAs t buf
+    (t buf : List ℕ) (a b n : ℕ) → reading_of t a b ≡ Ok n → length t ≤ length buf → ExportsAs t buf

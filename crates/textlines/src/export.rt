@@ -5,24 +5,25 @@ ghost use Rattle.tripfile.specs.Bodies.{paired};
 ghost use Rattle.textlines.specs.Text.{text_of, export_verdict, exported_of, buffer_of};
 
 use super::line;
-use tariff::Verdict;
-use tripfile::{Written, writing};
+use tariff::{Refusal, Verdict};
+use tripfile::writing;
 
 // The length of the text of calls.
+// kept: two lists here and in `put_text`, since the C interface lends two.
+#[tactic(auto, using(crate::proofs::Putting::text_long_more, crate::proofs::Putting::text_all), unfolding(crate::specs::Text::text_of))]
 fn text_length(codes: &[u32], numbers: &[u32]) -> usize
     requires { (length codes.now ≤ 8184) × (length numbers.now ≡ length codes.now) }
     ensures { result ≡ length (text_of (paired codes.now numbers.now)) }
 {
     let mut total = 0;
-    let mut i = 0;
-    while i < codes.len() {
-        total += line::line_length(codes[i], numbers[i]);
-        i += 1;
+    for (code, number) in codes.iter().zip(numbers) {
+        total += line::line_length(*code, *number);
     }
     total
 }
 
 // Puts the text of calls at the start of the buffer, and answers its length.
+#[tactic(auto, using(crate::proofs::Putting::put_room))]
 fn put_text(codes: &[u32], numbers: &[u32], buf: &mut [u8]) -> usize
     requires { (length numbers.now ≡ length codes.now)
         × (length (text_of (paired codes.now numbers.now)) ≤ length buf.old) }
@@ -31,43 +32,40 @@ fn put_text(codes: &[u32], numbers: &[u32], buf: &mut [u8]) -> usize
         ≡ placed buf.old 0 (text_of (paired codes.now numbers.now)) }
 {
     let mut at = 0;
-    let mut i = 0;
-    while i < codes.len() {
-        at = line::put_line(codes[i], numbers[i], at, buf);
-        i += 1;
+    for (code, number) in codes.iter().zip(numbers) {
+        at = line::put_line(*code, *number, at, buf);
     }
     at
 }
 
 // What an export is declined for: 14, 15, 21, 16.
+#[tactic(auto, unfolding(crate::specs::Text::export_verdict, crate::specs::Text::export_reasons, tariff::specs::Tests::verdict_of))]
 fn verdict_on(codes: &[u32], numbers: &[u32], room: usize) -> Verdict
     ensures { result ≡ export_verdict codes.now numbers.now room }
 {
     let n = codes.len();
-    if !(!(n == 0) & (n <= 8184) & (numbers.len() == n)) {
-        return Verdict::Refused(14);
+    if n == 0 || n > 8184 || numbers.len() != n {
+        return Err(Refusal::BodyLength);
     }
     if !writing::pairs_right(codes, numbers) {
-        return Verdict::Refused(15);
+        return Err(Refusal::CallForm);
     }
     let size = text_length(codes, numbers);
     if size > 65536 {
-        return Verdict::Refused(21);
+        return Err(Refusal::TextLength);
     }
     if room < size {
-        return Verdict::Refused(16);
+        return Err(Refusal::NoRoom);
     }
-    Verdict::Accepted
+    Ok(())
 }
 
-// The text of calls into the buffer, or the number that declines it, with every byte as it was: 14, 15, 21, 16.
-pub fn export(codes: &[u32], numbers: &[u32], buf: &mut [u8]) -> Written
+// The text of calls into the buffer, or why it is declined, with every byte as it was: 14, 15, 21, 16.
+#[tactic(auto, unfolding(crate::specs::Text::exported_of, crate::specs::Text::buffer_of))]
+pub fn export(codes: &[u32], numbers: &[u32], buf: &mut [u8]) -> Result<usize, Refusal>
     ensures answer { result ≡ exported_of codes.now numbers.now buf.old }
     ensures buffer { buf.new ≡ buffer_of codes.now numbers.now buf.old }
 {
-    let v = verdict_on(codes, numbers, buf.len());
-    match v {
-        Verdict::Refused(n) => Written::Refused(n),
-        Verdict::Accepted => Written::Bytes(put_text(codes, numbers, buf)),
-    }
+    verdict_on(codes, numbers, buf.len())?;
+    Ok(put_text(codes, numbers, buf))
 }

@@ -6,11 +6,11 @@ pub mod export;
 mod line;
 pub mod reading;
 
-// What reading answers: the number of calls, which are in the lent lists; the number, from 1, of the first line that is
-// not of the form (22); or the number that declines the text.
-#[derive(Clone, Copy)]
-pub enum TextRead {
-    Calls(usize),
+use tariff::Refusal;
+
+// Why a text is not read: the number, from 1, of the first line that is not of the form (22), or another refusal.
+#[derive(Clone, Copy, PartialEq, Eq)]
+pub enum TextError {
     BadLine(usize),
-    Refused(u64),
+    Refused(Refusal),
 }

@@ -6,14 +6,10 @@ use Prim.Native.Nat.{ℕ, ◌%◌, ◌≤◌}
 use native.Mathlib.Omega.{arith}
 use lib.ListN.{length}
 use lib.Dec.{leb, eqb}
-use borrow.Author.Tests.{leb-true, ltb-false, eqb-true, eqb-false}
+use borrow.Author.Tests.{leb-true, ltb-false, eqb-true, eqb-false, eq-eqb, ne_eqb}
 use Rattle.words.specs.Words.{word}
 use Rattle.tariff.specs.declared.Plan.{Plan}
-use Rattle.tariff.specs.declared.Terms.{Terms}
-use Rattle.tariff.specs.declared.PlanAnswer.{PlanAnswer}
-use Rattle.tariff.specs.declared.PlanAnswer.TheVariants.{Granted}
-use Rattle.tariff.specs.declared.Verdict.{Verdict}
-use Rattle.tariff.specs.declared.Verdict.TheVariants.{Accepted, Refused}
+use Rattle.tripfile.specs.declared.Trip.{Trip}
 use Rattle.tariff.specs.Tests.{because, verdict_of, is_accepted}
 use Rattle.tariff.specs.Plan.{plan_reasons, plan_verdict, plan_with, terms_reasons, plan_answer, plan_of}
 use Rattle.tariff.proofs.Tests.{and_left, and_right, first_fails, rest_accepts, not-false}
@@ -21,10 +17,12 @@ use Rattle.tariff.proofs.PlanLaws.{plan_ranged, opens_tells, known_form, form_kn
 use Rattle.sections.specs.Table.{file_reasons, file_verdict}
 use Rattle.sections.specs.Find.{just_once, part_of}
 use Rattle.tariff.proofs.Verdicts.{then, verdict-append, then_both, and_three}
-use Rattle.tripfile.specs.declared.Read.TheVariants as Answer
 use Rattle.tripfile.specs.Bodies.{terms_in, calls_in, calls_right, paired, PlanFits}
-use Rattle.tripfile.specs.Reading.{calls_body_right, body_reasons, read_reasons, read_verdict, read_answer}
+use Rattle.tripfile.specs.Reading.{calls_body_right, body_reasons, read_reasons, read_verdict, trip, read_answer}
 use Rattle.tripfile.specs.Writing.{file_size, counts_right, calls_reasons, write_reasons, write_verdict, Ready}
+use Rattle.std.specs.Prelude.{Result, Ok, Err, ⊤}
+use Rattle.tariff.specs.declared.Refusal.{Refusal}
+use Rattle.tariff.specs.declared.Refusal.TheVariants.{NotOnce}
 
 -- the fields of a plan that is accepted are words
 pub plan_fits : (p : Plan) → is_accepted (plan_verdict p) ≡ true → PlanFits p
@@ -71,9 +69,9 @@ ready p cs ns room w = record { plan = plan_fits p w.plan; few = w.few; same = w
 
 -- ---- a read
 
-pub read_then : (f : List ℕ) → read_verdict f ≡ then (file_verdict f) (cond (not (just_once f 1 && just_once f 2)) (Refused 13) (verdict_of (body_reasons (part_of f 1) (part_of f 2))))
+pub read_then : (f : List ℕ) → read_verdict f ≡ then (file_verdict f) (cond (not (just_once f 1 && just_once f 2)) (Err NotOnce) (verdict_of (body_reasons (part_of f 1) (part_of f 2))))
 unfolding read_verdict read_reasons file_verdict verdict_of
-read_then f = verdict-append (file_reasons f) (because 13 (not (just_once f 1 && just_once f 2)) ∷ body_reasons (part_of f 1) (part_of f 2))
+read_then f = verdict-append (file_reasons f) (because NotOnce (not (just_once f 1 && just_once f 2)) ∷ body_reasons (part_of f 1) (part_of f 2))
 
 -- of the bodies
 pub record Bodies (p c : List ℕ) : Type 0 where
@@ -118,7 +116,7 @@ pub reads : (f : List ℕ) → is_accepted (read_verdict f) ≡ true → Reads f
 reads f h =
     let both = just_once f 1 && just_once f 2 in
     let v = verdict_of (body_reasons (part_of f 1) (part_of f 2)) in
-    let t = then_both (file_verdict f) (cond (not both) (Refused 13) v) (ap is_accepted (sym (read_then f)) ∙ h) in
+    let t = then_both (file_verdict f) (cond (not both) (Err NotOnce) v) (ap is_accepted (sym (read_then f)) ∙ h) in
     let x = go both v t.1 in
     record {
       file = t.0;
@@ -127,28 +125,22 @@ reads f h =
       parts = bodies (part_of f 1) (part_of f 2) x.1;
     }
   where
-    go : (b : Bool) (v : Verdict) → is_accepted (cond (not b) (Refused 13) v) ≡ true → (b ≡ true) × (is_accepted v ≡ true)
+    go : (b : Bool) (v : Result ⊤ Refusal) → is_accepted (cond (not b) (Err NotOnce) v) ≡ true → (b ≡ true) × (is_accepted v ≡ true)
     go true v e = (refl, e)
     go false v e = (e, cc)
 
 -- ---- the answer on bodies whose own tests pass is the plan's
 
-pub bodies_then : (p c : List ℕ) → (eqb (length p) 28 && calls_body_right c) ≡ true → calls_right (calls_in c) ≡ true → verdict_of (body_reasons p c) ≡ verdict_of (terms_reasons (terms_in p))
-unfolding body_reasons verdict_of
-bodies_then p c a b = rw (a, b)
+abbrev pub read_by : Result Plan Refusal → ℕ → Result Trip Refusal
+read_by (Ok p) n = Ok (trip p n)
+read_by (Err r) n = Err r
 
-pub granted : (t : Terms) (p : Plan) (n : ℕ) → plan_of t ≡ Granted p → Answer.Trip p n ≡ read_answer (verdict_of (terms_reasons t)) (plan_with t) n
-unfolding plan_of
-granted t p n h = go (verdict_of (terms_reasons t)) h
+pub bodies_read : (p c : List ℕ) (n : ℕ) → length p ≡ 28 → (length c ≡ 0 → ⊥) → length c % 8 ≡ 0 → calls_right (calls_in c) ≡ true
+    → read_by (plan_of (terms_in p)) n ≡ read_answer (verdict_of (body_reasons p c)) (plan_with (terms_in p)) n
+unfolding body_reasons verdict_of plan_of
+bodies_read p c n long some eights right =
+    rw (eq-eqb _ _ long, ne_eqb _ _ some, eq-eqb _ _ eights, right) (go (verdict_of (terms_reasons (terms_in p))))
   where
-    go : (v : Verdict) → plan_answer v (plan_with t) ≡ Granted p → Answer.Trip p n ≡ read_answer v (plan_with t) n
-    go Accepted e = cc
-    go (Refused r) e = cc
-
-pub declined : (t : Terms) (r n : ℕ) → plan_of t ≡ PlanAnswer.Refused r → Answer.Refused r ≡ read_answer (verdict_of (terms_reasons t)) (plan_with t) n
-unfolding plan_of
-declined t r n h = go (verdict_of (terms_reasons t)) h
-  where
-    go : (v : Verdict) → plan_answer v (plan_with t) ≡ PlanAnswer.Refused r → Answer.Refused r ≡ read_answer v (plan_with t) n
-    go Accepted e = cc
-    go (Refused s) e = cc
+    go : (v : Result ⊤ Refusal) → read_by (plan_answer v (plan_with (terms_in p))) n ≡ read_answer v (plan_with (terms_in p)) n
+    go (Ok tt) = refl
+    go (Err r) = refl

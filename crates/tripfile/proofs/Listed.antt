@@ -5,7 +5,7 @@ use mathlib.Core.List.{List, [], ◌∷◌, ◌++◌}
 use Prim.Native.Nat.{ℕ, zero, suc, ◌+◌, ◌*◌, ◌/◌, ◌<◌}
 use native.Mathlib.Omega.{arith}
 use lib.ListN.{length, get_or, take, drop, length-append, get_or-append}
-use lib.Seq.{take-suc, get_or_at}
+use lib.Seq.{take-suc, take_all, get_or_at}
 use lib.Dec.{eqb}
 use borrow.Author.Tests.{eqb-true, eqb-false}
 use Rattle.words.specs.Words.{bytes_of, with_word}
@@ -89,6 +89,9 @@ pairs_more cs ns i h l =
     ∙ (ap calls_right (take-suc xs i (call 0 0) (omega (arith, length-paired cs ns h)))
     ∙ (right_append (take i xs) (get_or xs i (call 0 0)) ∙ ap (λ (c : Call). calls_right (take i xs) && call_right c) (paired_at cs ns i h l)))
 
+pub all_pairs : (cs ns : List ℕ) → length ns ≡ length cs → take (length cs) (paired cs ns) ≡ paired cs ns
+all_pairs cs ns h = take_all (length cs) (paired cs ns) (omega (arith, length-paired cs ns h))
+
 pub codes_paired : (cs ns : List ℕ) → length ns ≡ length cs → codes_of (paired cs ns) ≡ cs
 unfolding paired codes_of
 codes_paired [] ns h = refl
@@ -158,3 +161,12 @@ put_call cs ns s i h l =
     let two : with_word (bytes_of (take (2 * i + 1) ws) ++ drop (4 * (2 * i + 1)) s) (2 * i + 1) (get_or ns i 0) ≡ bytes_of (take (2 * i + 1 + 1) ws) ++ drop (4 * (2 * i + 1 + 1)) s = rw (← number) (put_more ws s (2 * i + 1) (omega arith)) in
     let e : 2 * (i + 1) ≡ 2 * i + 1 + 1 = omega arith in
     ap (λ (x : List ℕ). with_word x (2 * i + 1) (get_or ns i 0)) one ∙ (two ∙ rw e)
+
+-- all of them written
+pub put_all : (cs ns s : List ℕ) (n : ℕ) → n ≡ length cs → length ns ≡ length cs
+    → bytes_of (take (2 * n) (call_words (paired cs ns))) ++ drop (4 * (2 * n)) s ≡ bytes_of (call_words (paired cs ns)) ++ drop (8 * length cs) s
+put_all cs ns s n e h =
+    let xs = paired cs ns in
+    let whole : take (2 * n) (call_words xs) ≡ call_words xs = take_all (2 * n) (call_words xs) (omega (arith, length_words xs, length-paired cs ns h)) in
+    let all : 4 * (2 * n) ≡ 8 * length cs = omega arith in
+    rw (whole, all)

@@ -1,15 +1,13 @@
 -- The file that is written, and what stands in the buffer (write-1, write-2, refusal-14 to refusal-16, order-4).
 -- Choices (docs/DECISIONS.md, "Trip file"): the writer's room; codes and numbers of unequal count. Assumes nothing.
-use Rattle.std.specs.Prelude.{ℕ, ◌+◌, ◌*◌, ◌≤◌, ◌≡◌, Bool, ◌&&◌, not, List, [], ◌∷◌, ◌++◌, length, drop, leb, ltb, eqb}
+use Rattle.std.specs.Prelude.{ℕ, ◌+◌, ◌*◌, ◌≤◌, ◌≡◌, Bool, ◌&&◌, not, List, [], ◌∷◌, ◌++◌, length, drop, leb, ltb, eqb, Result, Ok, Err, ⊤}
 use Rattle.words.specs.Words.{bytes_of, total, closing_word}
 use Rattle.tariff.specs.declared.Plan.{Plan}
-use Rattle.tariff.specs.declared.Verdict.{Verdict}
-use Rattle.tariff.specs.declared.Verdict.TheVariants as Told
 use Rattle.tariff.specs.Tests.{Reason, because, verdict_of}
 use Rattle.tariff.specs.Plan.{plan_reasons}
-use Rattle.tripfile.specs.declared.Written.{Written}
-use Rattle.tripfile.specs.declared.Written.TheVariants.{Bytes, Refused}
 use Rattle.tripfile.specs.Bodies.{Call, plan_words, call_words, paired, calls_right, PlanFits}
+use Rattle.tariff.specs.declared.Refusal.{Refusal}
+use Rattle.tariff.specs.declared.Refusal.TheVariants.{BodyLength, CallForm, NoRoom}
 
 -- write-1, refusal-16: the bytes of a file of n calls
 abbrev pub file_size : ℕ → ℕ
@@ -35,9 +33,9 @@ counts_right cs ns = not (eqb (length cs) 0) && leb (length cs) 8184 && eqb (len
 -- order-4, refusal-14, refusal-15, refusal-16: of codes, numbers and the buffer's length
 unfoldable pub calls_reasons : List ℕ → List ℕ → ℕ → List Reason
 calls_reasons cs ns room =
-    because 14 (not (counts_right cs ns))
-    ∷ because 15 (not (calls_right (paired cs ns)))
-    ∷ because 16 (ltb room (file_size (length cs)))
+    because BodyLength (not (counts_right cs ns))
+    ∷ because CallForm (not (calls_right (paired cs ns)))
+    ∷ because NoRoom (ltb room (file_size (length cs)))
     ∷ []
 
 -- order-4: the plan's reasons, then these
@@ -45,7 +43,7 @@ unfoldable pub write_reasons : Plan → List ℕ → List ℕ → ℕ → List R
 write_reasons p cs ns room = plan_reasons p ++ calls_reasons cs ns room
 
 -- order-1: the first of these that holds
-unfoldable pub write_verdict : Plan → List ℕ → List ℕ → ℕ → Verdict
+unfoldable pub write_verdict : Plan → List ℕ → List ℕ → ℕ → Result ⊤ Refusal
 write_verdict p cs ns room = verdict_of (write_reasons p cs ns room)
 
 -- aid: what filling the buffer asks, which the reasons see to
@@ -56,18 +54,18 @@ pub record Ready (p : Plan) (cs ns : List ℕ) (room : ℕ) : Type 0 where
   pub fits : file_size (length cs) ≤ room
 
 -- form-8, order-2: the bytes written, or the number alone
-abbrev pub write_answer : Verdict → ℕ → Written
-write_answer Told.Accepted n = Bytes n
-write_answer (Told.Refused r) n = Refused r
+abbrev pub write_answer : Result ⊤ Refusal → ℕ → Result ℕ Refusal
+write_answer (Ok tt) n = Ok n
+write_answer (Err r) n = Err r
 
 -- write-1, promise-1: what writing into a buffer answers
-unfoldable pub written_of : Plan → List ℕ → List ℕ → List ℕ → Written
+unfoldable pub written_of : Plan → List ℕ → List ℕ → List ℕ → Result ℕ Refusal
 written_of p cs ns buf = write_answer (write_verdict p cs ns (length buf)) (file_size (length cs))
 
 -- order-2, write-2: filled, or on a refusal as it was
-abbrev pub filled_or_kept : Verdict → List ℕ → List ℕ → List ℕ
-filled_or_kept Told.Accepted filled kept = filled
-filled_or_kept (Told.Refused r) filled kept = kept
+abbrev pub filled_or_kept : Result ⊤ Refusal → List ℕ → List ℕ → List ℕ
+filled_or_kept (Ok tt) filled kept = filled
+filled_or_kept (Err r) filled kept = kept
 
 -- write-1, write-2, form-6, promise-1: what stands in the buffer then
 unfoldable pub buffer_of : Plan → List ℕ → List ℕ → List ℕ → List ℕ

@@ -7,16 +7,9 @@ pub mod writing;
 
 use tariff::Plan;
 
-// What reading answers: the plan with the number of calls, which stay in the file; or the number that declines it.
+// What is read of a file: the plan with the number of calls, which stay in the file.
 #[derive(Clone, Copy)]
-pub enum Read {
-    Trip { plan: Plan, calls: usize },
-    Refused(u64),
-}
-
-// What writing answers: the length of the file written, or the number that declines it.
-#[derive(Clone, Copy)]
-pub enum Written {
-    Bytes(usize),
-    Refused(u64),
+pub struct Trip {
+    pub plan: Plan,
+    pub calls: usize,
 }

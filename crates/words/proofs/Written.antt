@@ -1,15 +1,7 @@
 -- Laws of words written into a list of bytes. Assumes nothing.
-use Rattle.std.proofs.Common.{◌≡◌, ℕ, suc, ◌+◌, ◌*◌, ◌<◌, ◌≤◌, List, [], ◌∷◌, ◌++◌, length, get_or, take, drop, set, refl, ap, ◌∙◌, append_assoc, add-one, arith, length-take-le, take-suc, drop-drop, take_at}
-use lib.Seq.{sets-eq, drop-append-add}
+use Rattle.std.proofs.Common.{◌≡◌, ℕ, ◌+◌, ◌*◌, ◌<◌, List, [], ◌∷◌, ◌++◌, length, get_or, take, drop, refl, ap, ◌∙◌, append_assoc, add-one, arith, length-take-le, take-suc, drop-drop, take_at}
+use lib.Seq.{drop-append-add}
 use Rattle.words.specs.Words.{word_bytes, bytes_of, with_word}
-
--- four bytes stored in a row
-pub four_stores : (s : List ℕ) (at a b c d : ℕ) → at + 4 ≤ length s
-    → set (set (set (set s at a) (at + 1) b) (at + 2) c) (at + 3) d ≡ take at s ++ ((a ∷ b ∷ c ∷ d ∷ []) ++ drop (at + 4) s)
-four_stores s at a b c d h =
-    let two : at + 2 ≡ suc (suc at) = omega arith in
-    let three : at + 3 ≡ suc (suc (suc at)) = omega arith in
-    rw (add-one at, two, three, ← append_assoc) (sets-eq (a ∷ b ∷ c ∷ d ∷ []) s at h)
 
 pub length-bytes_of : (ws : List ℕ) → length (bytes_of ws) ≡ 4 * length ws
 unfolding bytes_of

@@ -1,21 +1,8 @@
 // The little-endian u32 words of a slice of bytes, and their wrapping sum (file-1, file-3, form-2).
 #![tactic(auto)]
 
-ghost use Rattle.std.specs.Prelude.{◌≡◌, ◌+◌, ◌*◌, ◌%◌, ◌<◌, ◌≤◌, ◌++◌, length, drop};
+ghost use Rattle.std.specs.Prelude.{◌≡◌, ◌+◌, ◌*◌, ◌≤◌, ◌++◌, length, drop};
 ghost use Rattle.words.specs.Words.{word, with_word, bytes_of, wrapped_sum, closing_word};
-
-fn wide(byte: u8) -> u32
-    ensures { (result ≡ byte) × (result < 256) }
-{
-    byte as u32
-}
-
-// The lowest byte of a word.
-fn lowest(w: u32) -> u8
-    ensures { result ≡ w % 256 }
-{
-    (w % 256) as u8
-}
 
 // Word number i.
 pub fn word_at(s: &[u8], i: usize) -> u32
@@ -23,11 +10,7 @@ pub fn word_at(s: &[u8], i: usize) -> u32
     ensures { result ≡ word s.now i }
 {
     let at = 4 * i;
-    let a = wide(s[at]);
-    let b = wide(s[at + 1]);
-    let c = wide(s[at + 2]);
-    let d = wide(s[at + 3]);
-    a + 256 * b + 65536 * c + 16777216 * d
+    u32::from_le_bytes([s[at], s[at + 1], s[at + 2], s[at + 3]])
 }
 
 // Writes word number i.
@@ -36,35 +19,29 @@ pub fn put_word(s: &mut [u8], i: usize, w: u32)
     ensures { s.new ≡ with_word s.old i w }
 {
     let at = 4 * i;
-    s[at] = lowest(w);
-    s[at + 1] = lowest(w / 256);
-    s[at + 2] = lowest(w / 65536);
-    s[at + 3] = lowest(w / 16777216);
+    s[at..at + 4].copy_from_slice(&w.to_le_bytes());
 }
 
 // Writes words from the start of a part on; its bytes after them stay.
+#[tactic(auto, using(crate::proofs::Written::put_more), unfolding(crate::specs::Words::bytes_of))]
 pub fn put_words(s: &mut [u8], ws: &[u32])
     requires { 4 * length ws.now ≤ length s.old }
     ensures { s.new
         ≡ bytes_of ws.now ++ drop (4 * length ws.now) s.old }
 {
-    let mut i = 0;
-    while i < ws.len() {
-        put_word(s, i, ws[i]);
-        i += 1;
+    for (i, w) in ws.iter().enumerate() {
+        put_word(s, i, *w);
     }
 }
 
 // The wrapping 32-bit sum of all words.
+#[tactic(auto, using(crate::proofs::Read::sum_more), unfolding(crate::specs::Words::sum_to, crate::specs::Words::wrapped_sum))]
 pub fn sum(s: &[u8]) -> u32
     ensures { result ≡ wrapped_sum s.now }
 {
-    let n = s.len() / 4;
     let mut total: u32 = 0;
-    let mut i = 0;
-    while i < n {
-        total = std::num::wrapping_add_u32(total, word_at(s, i));
-        i += 1;
+    for i in 0..s.len() / 4 {
+        total = total.wrapping_add(word_at(s, i));
     }
     total
 }
@@ -73,5 +50,5 @@ pub fn sum(s: &[u8]) -> u32
 pub fn solve(rest: u32) -> u32
     ensures { result ≡ closing_word rest }
 {
-    std::num::wrapping_sub_u32(0, rest)
+    0u32.wrapping_sub(rest)
 }

@@ -1,11 +1,8 @@
--- The cards before place i are renewed: the others, once renewed too, make what the whole list becomes.
-use Rattle.std.proofs.Common.{length, ◌-◌, ◌≡◌, map}
+-- The cards before the index are renewed.
+use Rattle.std.proofs.Common.{◌≡◌, ◌++◌, map, take, drop}
 use Rattle.cards.specs.Survey.{renewed}
-use Rattle.cards.proofs.Each.{each_from}
 use Rattle.cards.proofs.renew_all.Given as goal
 
-abbrev pub invariant-loop-i : goal.invariant-loop-i
-invariant-loop-i l = each_from (renewed l.anew) l.i l.cards ≡ map (renewed l.anew) l.initial.cards
-
-abbrev pub decreases-loop-i : goal.decreases-loop-i
-decreases-loop-i l = length l.initial.cards - l.i
+abbrev pub invariant-loop-card : goal.invariant-loop-card
+invariant-loop-card l =
+    l.cards ≡ map (renewed l.renewal) (take l.card-index l.initial.cards) ++ drop l.card-index l.initial.cards

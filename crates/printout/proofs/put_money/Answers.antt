@@ -1,12 +1,11 @@
--- `printout::put_money` meets its contract. Assumes nothing.
 use Rattle.std.proofs.Common.{arith}
 use Rattle.printout.specs.Printout.{money_lines}
 use Rattle.text.proofs.Placing.{put_next}
 use Rattle.printout.proofs.put_money.Goals as goal
 
-pub returns : goal.returns
+pub returns-clause-buffer : goal.returns-clause-buffer
 unfolding money_lines
-returns c =
+returns-clause-buffer c =
     let one = c.put_line-at.ensures in
     let two = c.put_line-at-2.ensures in
     let three = c.put_line-at-3.ensures in
@@ -15,5 +14,4 @@ returns c =
     let p = put_next _ _ _ _ _ _ _ _ (record { buffer = one.buffer; end = one.end }) (omega arith) two.buffer two.end in
     let q = put_next _ _ _ _ _ _ _ _ p (omega arith) three.buffer three.end in
     let r = put_next _ _ _ _ _ _ _ _ q (omega arith) four.buffer four.end in
-    let s = put_next _ _ _ _ _ _ _ _ r (omega arith) five.buffer five.end in
-    record { end = omega (arith, s.end); room = omega arith; buffer = s.buffer }
+    (put_next _ _ _ _ _ _ _ _ r (omega arith) five.buffer five.end).buffer

@@ -1,9 +1,6 @@
--- The next file starts within the input, and behind the one before.
-use Rattle.std.proofs.Common.{length, ◌-◌, ◌≤◌}
+-- Each turn leaves less of the input.
+use Rattle.std.proofs.Common.{length}
 use Rattle.test_trips.proofs.run_cases.Given as goal
 
-abbrev pub invariant-loop-at : goal.invariant-loop-at
-invariant-loop-at g l = l.at ≤ length l.s
-
-abbrev pub decreases-loop-at : goal.decreases-loop-at
-decreases-loop-at g l = length l.s - l.at
+abbrev pub decreases-loop-a : goal.decreases-loop-a
+decreases-loop-a g l = length l.rest

@@ -17,7 +17,7 @@ returns c =
     let ys = a.answer.now in
     let d = box_call a.call a.card a.which a.n in
     let t = is_box_call a.call a.which ys in
-    let r = c.survey_all-found.ensures ∙ ap (λ (u : Survey). survey_of u cs) c.start_meant-from.ensures in
+    let r = c.survey_all-found.ensures ∙ ap (λ (u : Survey). survey_of u cs) c.start_meant.ensures in
     let e = c.return_found-done.ensures.returned ∙ ap (λ (u : Survey). found_returned xs u d t) r in (
       ap (λ (u : BoxReturned). u.code) e ∙ called_code xs cs d t,
       c.return_found-done.ensures.numbers ∙ ap (λ (u : Survey). cond t (found_numbers xs u d) xs) r

@@ -16,7 +16,7 @@ returns c =
     let xs = c.args.account.now in
     let cs = c.args.cards.now in
     let ts = c.args.plan.now in
-    let r = c.survey_all-found.ensures ∙ ap (λ (u : Survey). survey_of u cs) c.start_at-from.ensures in
+    let r = c.survey_all-found.ensures ∙ ap (λ (u : Survey). survey_of u cs) c.start_at.ensures in
     let e = c.open_found-done.ensures.returned ∙ ap (λ (u : Survey). found_opened xs u ts) r in (
       ap (λ (u : BoxReturned). u.code) e ∙ opened_code xs cs ts,
       c.open_found-done.ensures.numbers

@@ -1,7 +1,7 @@
 use Rattle.std.proofs.Common.{◌≡◌, true, refl, sym, ◌∙◌, ap}
+use Rattle.std.specs.Prelude.{Result, Ok, Err, ⊤}
 use Rattle.tariff.specs.declared.Plan.{Plan}
-use Rattle.tariff.specs.declared.Verdict.{Verdict}
-use Rattle.tariff.specs.declared.Verdict.TheVariants.{Accepted, Refused}
+use Rattle.tariff.specs.declared.Refusal.{Refusal}
 use Rattle.tariff.specs.Tests.{is_accepted}
 use Rattle.tariff.specs.Plan.{plan_verdict}
 use Rattle.account.specs.declared.StateOpened.{StateOpened}
@@ -23,24 +23,28 @@ new : (p : Plan) → is_accepted (plan_verdict p) ≡ true → (open_answer p).a
 unfolding open_answer
 new p h = rw h refl
 
-pub returns-in-Accepted : goal.returns-in-Accepted
-returns-in-Accepted c =
+pub returns-in-Ok-clause-returned : goal.returns-in-Ok-clause-returned
+returns-in-Ok-clause-returned c =
     let a = c.args in
-    let t = c.in-Accepted.is in
-    let e : seen_verdict a.p a.s ≡ Accepted = sym (told a.p a.s _ c.open_seen-opened.ensures) ∙ t in
-    record {
-      returned = rw e (ap (λ (x : Change). record { code = 1000; change = x })
-          (c.opening_of-change.ensures ∙ ap (λ (w : Verdict). opening_change w a.s) t));
-      numbers = rw e (c.open_on.ensures ∙ ap account_numbers (new a.p c.requires.1));
-    }
+    let e : seen_verdict a.p a.s ≡ Ok tt = sym (told a.p a.s _ c.open_seen-opened.ensures) ∙ c.in-Ok.is in
+    rw e (ap (λ (x : Change). record { code = 1000; change = x })
+    (c.opening_of-change.ensures ∙ ap (λ (w : Result ⊤ Refusal). opening_change w a.s) c.in-Ok.is))
 
-pub returns-in-Refused : goal.returns-in-Refused
-returns-in-Refused c =
+pub returns-in-Ok-clause-numbers : goal.returns-in-Ok-clause-numbers
+returns-in-Ok-clause-numbers c =
     let a = c.args in
-    let t = c.in-Refused.is in
-    let e : seen_verdict a.p a.s ≡ Refused _ = sym (told a.p a.s _ c.open_seen-opened.ensures) ∙ t in
-    record {
-      returned = rw e (ap (λ (x : Change). record { code = c.in-Refused.n; change = x })
-          (c.opening_of-change.ensures ∙ ap (λ (w : Verdict). opening_change w a.s) t));
-      numbers = rw e refl;
-    }
+    let e : seen_verdict a.p a.s ≡ Ok tt = sym (told a.p a.s _ c.open_seen-opened.ensures) ∙ c.in-Ok.is in
+    rw e (c.open_on.ensures ∙ ap account_numbers (new a.p c.requires.1))
+
+pub returns-in-Err-clause-returned : goal.returns-in-Err-clause-returned
+returns-in-Err-clause-returned c =
+    let a = c.args in
+    let e : seen_verdict a.p a.s ≡ Err c.in-Err.refusal = sym (told a.p a.s _ c.open_seen-opened.ensures) ∙ c.in-Err.is in
+    let k = c.opening_of-change.ensures ∙ ap (λ (w : Result ⊤ Refusal). opening_change w a.s) c.in-Err.is in
+    rw e cc
+
+pub returns-in-Err-clause-numbers : goal.returns-in-Err-clause-numbers
+returns-in-Err-clause-numbers c =
+    let a = c.args in
+    let e : seen_verdict a.p a.s ≡ Err c.in-Err.refusal = sym (told a.p a.s _ c.open_seen-opened.ensures) ∙ c.in-Err.is in
+    rw e refl

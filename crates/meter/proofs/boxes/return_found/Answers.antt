@@ -1,11 +1,11 @@
-use Rattle.std.proofs.Common.{◌≡◌, ℕ, List, true, refl, sym, ◌∙◌, ap}
+use Rattle.std.proofs.Common.{◌≡◌, ℕ, List, true, sym, ◌∙◌, ap}
 use Rattle.cards.specs.declared.Survey.{Survey}
 use Rattle.cards.specs.declared.Change.{Change}
 use Rattle.family.specs.declared.BoxCall.{BoxCall}
 use Rattle.family.specs.Seen.{card_place, no_change}
 use Rattle.meter.specs.declared.boxes.BoxAnswered.{BoxAnswered}
-use Rattle.meter.specs.Answers.{answer_code, answer_laid}
-use Rattle.meter.specs.Boxes.{is_box_call, found_answer, found_numbers, found_change, found_returned}
+use Rattle.meter.specs.Answers.{answer_code}
+use Rattle.meter.specs.Boxes.{is_box_call, found_answer, found_change, found_returned}
 use Rattle.meter.proofs.Found.{found_room}
 use Rattle.meter.proofs.boxes.return_found.Goals as goal
 
@@ -16,17 +16,12 @@ made : (xs : List ℕ) (s : Survey) (c d : BoxCall) (x : BoxAnswered)
 made xs s c d x e f =
     e ∙ ap (λ (y : BoxCall). record { answer = found_answer xs s y; change = found_change xs s y }) f
 
-pub returns-then-not-is_call : goal.returns-then-not-is_call
+pub returns-then-not-is_call-clause-returned : goal.returns-then-not-is_call-clause-returned
 unfolding found_returned
-returns-then-not-is_call c =
-    let h = sym c.is_call.ensures ∙ c.if-not-is_call.true in
+returns-then-not-is_call-clause-returned c =
     let e = c.unchanged.ensures
     ∙ ap (λ (i : ℕ). no_change i c.args.s) (c.place_of.ensures ∙ ap card_place c.call_meant-c.ensures) in
-    record {
-      returned = rw h (ap (λ (x : Change). record { code = 1001; change = x }) e);
-      numbers = rw h refl;
-      answered = rw h refl;
-    }
+    rw (sym c.is_call.ensures ∙ c.if-not-is_call.true) (ap (λ (x : Change). record { code = 1001; change = x }) e)
 
 pub put_answer-requires : goal.put_answer-requires
 put_answer-requires c =
@@ -36,17 +31,13 @@ put_answer-requires c =
     (found_room a.account.now a.s a.call a.card a.which a.n a.answer.now
     (sym c.is_call.ensures ∙ c.if-not-is_call.false))
 
-pub returns : goal.returns
+pub returns-clause-returned : goal.returns-clause-returned
 unfolding found_returned
-returns c =
+returns-clause-returned c =
     let a = c.args in
     let h : is_box_call a.call a.which a.answer.now ≡ true = sym c.is_call.ensures ∙ c.if-not-is_call.false in
     let m = made a.account.now a.s _ _ _ c.call_found-x.ensures.answer c.call_meant-c.ensures in
-    record {
-      returned = rw h (λ j. record {
-        code = (c.answer_code.ensures ∙ ap (λ (x : BoxAnswered). answer_code x.answer) m) j;
-        change = ap (λ (x : BoxAnswered). x.change) m j;
-      });
-      numbers = rw h (c.call_found-x.ensures.numbers ∙ ap (found_numbers a.account.now a.s) c.call_meant-c.ensures);
-      answered = rw h (c.put_answer.ensures ∙ ap (λ (x : BoxAnswered). answer_laid x.answer a.answer.now) m);
-    }
+    rw h (λ j. record {
+      code = (c.answer_code.ensures ∙ ap (λ (x : BoxAnswered). answer_code x.answer) m) j;
+      change = ap (λ (x : BoxAnswered). x.change) m j;
+    })

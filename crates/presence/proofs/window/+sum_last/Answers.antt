@@ -1,17 +1,13 @@
 -- `presence::window::sum_last` meets its contract. Assumes nothing.
-use Rattle.std.proofs.Common.{sym, arith}
-use Rattle.presence.proofs.Totals.{sum_first_none, sum_first_more}
+use Rattle.std.proofs.Common.{◌-◌, sym, arith}
+use Rattle.presence.proofs.Totals.{sum_none, sum_more}
 use Rattle.presence.proofs.window.+sum_last.Goals as goal
 
-pub returns-then-w-eq0 : goal.returns-then-w-eq0
-returns-then-w-eq0 t c = sym (sum_first_none c.args.w c.args.xs.now (omega (arith, c.if-w-eq0.true)))
+pub returns-then-w-eq0-clause-sum : goal.returns-then-w-eq0-clause-sum
+returns-then-w-eq0-clause-sum g t c = λ f ds h. sym (sum_none f c.args.w ds (omega (arith, c.if-w-eq0.true)))
 
-pub sum_last-requires : goal.sum_last-requires
-sum_last-requires t c =
-    (omega arith, (omega arith, omega (arith, sum_first_more c.args.w c.args.xs.now c.if-w-eq0.false, c.requires)))
-
-pub overflow_add-result : goal.overflow_add-result
-overflow_add-result t c = omega (arith, c.sum_last.ensures, sum_first_more c.args.w c.args.xs.now c.if-w-eq0.false, c.requires)
-
-pub returns : goal.returns
-returns t c = rw c.sum_last.ensures (sym (sum_first_more c.args.w c.args.xs.now c.if-w-eq0.false))
+pub returns-clause-sum : goal.returns-clause-sum
+returns-clause-sum g t c = λ f ds h.
+    rw
+    (h (c.args.w - 1) c.adds-x.result (omega arith) c.adds-x.ensures, c.sum_last.ensures.sum f ds (λ k r l p. h k r (omega arith) p))
+    (sym (sum_more f c.args.w ds c.if-w-eq0.false))

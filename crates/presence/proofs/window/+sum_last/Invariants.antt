@@ -2,4 +2,4 @@
 use Rattle.presence.proofs.window.+sum_last.Given as goal
 
 abbrev pub decreases-sum_last : goal.decreases-sum_last
-decreases-sum_last l = l.w
+decreases-sum_last g l = l.w

@@ -2,6 +2,8 @@
 use Rattle.std.proofs.Common.{◌≡◌, sym, ◌∙◌, ap, ℕ, ◌-◌, arith, length, take, get_or}
 use Rattle.std.proofs.Math.Dec.{eqb}
 use Rattle.std.proofs.lemmas.Bool.{eqb-true, eq-eqb}
+use Rattle.std.proofs.lemmas.Bool.Decides.{Decides-eqb}
+use Rattle.std.proofs.lemmas.Slice.Eq.{slice_eq-Decides}
 use Rattle.tariff.proofs.Tests.{and_left, and_right, and_both}
 use Rattle.textlines.proofs.OneLine.{framed_yes, framed_long, framed_head, framed_last}
 use Rattle.textlines.specs.Line.{heading}
@@ -11,22 +13,22 @@ pub returns-then-n-a : goal.returns-then-n-a
 returns-then-n-a c =
     let s = c.args.s.now in
     let k = c.args.code in
-    (λ h. cc, λ h. absurd (omega (arith, framed_long s k h, c.heading_of-h.ensures.1)))
+    (λ h. cc, λ h. absurd (omega (arith, framed_long s k h, ap length c.heading_of-heading.ensures)))
 
 pub returns : goal.returns
 returns c =
     let s = c.args.s.now in
     let k = c.args.code in
-    let h = c.heading_of-h in
-    let m = c.same-begun in
-    let last = eqb (get_or s (length s - 1) 0) 10 in
-    let a : h.result.len ≡ length (heading k) = h.ensures.1 in (
+    let h = c.heading_of-heading in
+    let a : length h.result.now ≡ length (heading k) = ap length h.ensures in
+    let begun = slice_eq-Decides Decides-eqb _ _ _ c.eq.ensures in
+    let last = eqb (get_or s (length s - 1) 0) 10 in (
       (λ y.
           framed_yes s k (omega arith)
-          (ap (λ (n : ℕ). take n s) (sym a) ∙ (m.ensures.0 (and_left m.result last y) ∙ h.ensures.0))
-          (eqb-true (get_or s (length s - 1) 0) 10 (and_right m.result last y))),
+          (ap (λ (n : ℕ). take n s) (sym a) ∙ (begun.0 (and_left c.eq.result last y) ∙ h.ensures))
+          (eqb-true (get_or s (length s - 1) 0) 10 (and_right c.eq.result last y))),
       (λ y.
-          and_both m.result last
-          (m.ensures.1 (ap (λ (n : ℕ). take n s) a ∙ (framed_head s k y ∙ sym h.ensures.0)))
+          and_both c.eq.result last
+          (begun.1 (ap (λ (n : ℕ). take n s) a ∙ (framed_head s k y ∙ sym h.ensures)))
           (eq-eqb (get_or s (length s - 1) 0) 10 (framed_last s k y))),
     )

@@ -1,22 +1,17 @@
--- A line of the form counts with those after it; the first that is not ends the count.
-use Rattle.std.proofs.Common.{sym, ◌∙◌, ap, arith}
-use Rattle.textlines.specs.Text.{right_lines}
-use Rattle.textlines.proofs.Split.{no_lines, right_yes, right_no, right_none}
+-- The pieces are the lines, and those before the first that is not of the form are counted.
+use Rattle.std.proofs.Common.{ap, ◌∙◌, rules, tests}
+use Rattle.std.specs.Slice.Iter.{split_inclusive_rest, split_inclusive_callee}
+use Rattle.std.proofs.lemmas.Iterator.Consumers.{count_from_yields_List}
+use Rattle.std.proofs.lemmas.Iterator.Search.{YieldsList-from_take_while}
+use Rattle.textlines.specs.Line.{right_line}
+use Rattle.textlines.specs.Text.{lines_of}
+use Rattle.textlines.proofs.Lines.{yields_lines, right_first}
 use Rattle.textlines.proofs.reading.count_right.Goals as goal
-
-pub returns-then-not-is_right : goal.returns-then-not-is_right
-returns-then-not-is_right c =
-    let f = sym c.is_right.ensures ∙ c.if-not-is_right.true in
-    let e = ap right_lines c.line_end-e.ensures.split ∙ right_no _ _ f in
-    omega arith
-
-pub loop-at-preserved : goal.loop-at-preserved
-loop-at-preserved c =
-    let f = sym c.is_right.ensures ∙ c.if-not-is_right.false in
-    let e = ap right_lines c.line_end-e.ensures.split ∙ right_yes _ _ f in
-    record { within = omega arith; few = omega (arith, c.line_end-e.ensures.within); all = omega arith }
 
 pub returns : goal.returns
 returns c =
-    let e = ap right_lines (no_lines c.args.text.now c.loop-at.at (omega arith)) ∙ right_none in
-    omega arith
+    count_from_yields_List _ _ c.count.ensures.ran
+    (YieldsList-from_take_while _ right_line
+    (yields_lines _ c.args.text.now (ap split_inclusive_rest c.take_while.ensures.source ∙ c.split_inclusive.ensures.rest) (ap split_inclusive_callee c.take_while.ensures.source ∙ c.split_inclusive.ensures.closure) (λ x b q k. search (rules, tests)))
+    c.take_while.ensures.closure c.take_while.ensures.done (λ x b q k. search (rules, tests)))
+    ∙ right_first (lines_of c.args.text.now)
