@@ -39,8 +39,6 @@ pub struct Opened {
 }
 
 // The same with all of the account but its log.
-// kept: beside `Opened`, as `StateApplied` of `state` beside `Applied`; a pair of any two would call neither part by its
-// name.
 #[derive(Clone, Copy)]
 pub struct StateOpened {
     pub answer: Verdict,
@@ -248,7 +246,7 @@ impl Account {
     }
 
     // kept: each of the five makes its call where the account lies. Through `apply`, in a line each, a use took 12,115
-    // instructions and not 8,810, since the account was copied twice more.
+    // instructions and not 8,810, and one copy of the account more.
 
     // Refusal 0.
     pub fn register(mut self, p: Place) -> Applied

@@ -33,6 +33,7 @@ impl fmt::Display for Where {
 }
 
 // The limit's kB, or `none`.
+// kept: `test_trips` has it, too; the two programs share no crate that prints
 #[derive(Drop)]
 struct Limit(Allowance);
 

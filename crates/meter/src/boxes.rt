@@ -27,7 +27,6 @@ pub struct BoxAnswered {
 }
 
 // What a function returns, and what becomes of the cards.
-// kept: beside `BoxAnswered`; a pair of any two would call neither part by name.
 #[derive(Clone, Copy)]
 pub struct BoxReturned {
     pub code: u64,

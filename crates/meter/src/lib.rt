@@ -30,8 +30,8 @@ fn put_first(out: &mut [u64], ns: &[u64])
     out[..ns.len()].copy_from_slice(ns);
 }
 
-// kept: a list with room is a clause here and in `files` and `texts`, and 1,649 numbers in `settle`, `open_on` and
-// `open_granted`: the C interface lends memory, and each looks at its length once.
+// kept: room in a lent list, here and in `files` and `texts`, and 1,649 numbers in `settle`, `open_on` and
+// `open_granted` are clauses, since the C interface lends memory and its length.
 
 // One number into the first place.
 fn put_number(out: &mut [u64], n: u64)

@@ -39,7 +39,7 @@ fn location_of(n: u64) -> Location
     }
 }
 
-// kept: the bound of L is a clause, since an account has any (`sound` looks at it), and it is a number in one of 1,649.
+// kept: the bound of L is a clause, since an account may have any L, at which `sound` looks.
 pub fn number_of_allowance(l: Allowance) -> u64
     requires { allowance_fits l ≡ true }
     ensures { result ≡ allowance_number l }

@@ -112,9 +112,6 @@ fn add_day(sum: Units, d: Day) -> Units
     tariff::amounts::plus(b, sum)
 }
 
-// kept: that n is at most 123 is a clause here and below; for the days of a window `Window` holds it, and n is
-// elsewhere the number that an account has beside its log.
-
 // The units of the first n days.
 #[tactic(auto, using(crate::proofs::Logs::over_none, crate::proofs::Logs::over_next))]
 fn tally(log: &Log, n: usize) -> Units

@@ -52,7 +52,7 @@ fn other_of(d: Day, s: Service) -> u64
 
 // The sum, over the first w numbers, of what each adds: that over one number less, and what the one before them adds,
 // which is read first.
-// Kept: the array and w, since the sum over the last w days is a recursion that falls on w (form-5).
+// Kept: the array and w, since 01 names a recursion that falls on w for such a sum (form-5).
 fn sum_last<F: Fn(u64) -> u64>(xs: &[u64; 123], w: usize, adds: &F) -> u64
     requires callable { F.IsAlwaysCallable adds.now }
     requires few { w ≤ 123 }

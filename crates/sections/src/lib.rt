@@ -166,8 +166,7 @@ fn entries_of(file: &[u8]) -> Entries<'_>
     }
 }
 
-// kept: a kind of section is a number, since a table may hold any and each is looked for; 1 is the plan and
-// 2 the calls.
+// kept: a kind of section is a number, since the C interface finds a section of any kind; 1 is the plan, 2 the calls.
 
 // kept: that the file is not declined is a clause of `is_once`, `part_extent` and `part`, which take any lent file and
 // are public; a type in its place would ask more of who calls them.

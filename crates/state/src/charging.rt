@@ -94,9 +94,6 @@ fn surcharged_of(s: Services, l: Allowance, r: u64, z: Units) -> Units
     }
 }
 
-// kept: that the account is ready for the charged units is a clause of three functions, which one calls in turn; a type
-// with both would be made and taken apart in it alone.
-
 // Priced units of the account after a use charged as c.
 #[tactic(auto, using(crate::proofs::Billing::billed_sum), unfolding(crate::specs::Use::billed_after))]
 fn billed_with(a: &State, c: Units) -> Units

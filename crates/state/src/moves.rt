@@ -36,7 +36,7 @@ fn renewed(renews: bool, allowance: Allowance, before: Quota) -> Quota
 }
 
 // Where `turns` holds, a new L, and H and R count anew.
-// kept: beside `renewed`, since one for both would take a second flag for H, which no definition has.
+// kept: beside `renewed`, as the definitions `renewed_if` and `turned_if` are two.
 fn turned(turns: bool, allowance: Allowance, before: Quota) -> Quota
     ensures { result ≡ turned_if turns allowance before }
 {

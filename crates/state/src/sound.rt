@@ -33,7 +33,6 @@ fn sum_fits(c: u64, n: u64) -> bool
     c <= n.saturating_mul(20000)
 }
 
-// kept: a line for each kind, since it answers a bool; by `kind_by_kind` a comparison of units would have to follow.
 fn basis_fits(c: Units, n: Units) -> bool
     ensures { result ≡ fits c (each 20000 20000 20000 20000 ⊗ n) }
 {

@@ -122,8 +122,6 @@ pub fn plan_from(t: Terms) -> Result<Plan, Refusal>
 }
 
 // Is a plan of this form an open bundle, at this fee, data cap and volume?
-// kept: fee, cap and volume and their bounds (`BundleFits`) come from a plan and from a row of caps, and no type has all
-// three.
 #[tactic(auto, unfolding(crate::specs::Plan::open_bundle))]
 pub fn is_open(f: Form, fee: u64, cap: u64, volume: u64) -> bool
     requires { BundleFits fee cap volume }

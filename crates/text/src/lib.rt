@@ -22,9 +22,6 @@ fn digit_byte(d: u64) -> u8
     b'0' + d as u8
 }
 
-// kept: a place and a lent buffer, here and in what prints: `placed` speaks of the buffer as it came, and a type of both
-// would have to keep that beside what is written.
-
 // Puts bytes into the buffer from place `at` on, and answers the place after them.
 #[tactic(auto, unfolding(crate::specs::Text::placed))]
 pub fn put_bytes(bytes: &[u8], at: usize, buf: &mut [u8]) -> usize
