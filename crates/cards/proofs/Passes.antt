@@ -14,7 +14,8 @@ use Rattle.std.proofs.lemmas.Bool.{cases_lt}
 use mathlib.Core.Logic.{◌⊎◌, inl, inr}
 use Rattle.std.proofs.lemmas.Option.{slice_get-get_or, slice_get_past, unwrap_or-slice_get}
 use lib.Dec.{ltb}
-use borrow.Author.Tests.{lt-ltb, le-ltb}
+use borrow.Author.Tests.{ltb-true, lt-ltb, le-ltb}
+use Rattle.tariff.proofs.Tests.{bool_ext}
 use Rattle.tariff.proofs.Sums.{⊕-assoc}
 use Rattle.tariff.specs.declared.Units.{Units}
 use Rattle.tariff.specs.Units.{each, zero_units, ◌⊕◌, AtMost}
@@ -91,6 +92,10 @@ card_is i cs = card_from (start i) cs
 -- what is read of it
 pub read_is : (i : ℕ) (cs : List Card) → unwrap_or (survey_of (start i) cs).card no_card ≡ get_or cs i no_card
 read_is i cs = rw (card_is i cs) (unwrap_or-slice_get cs i no_card)
+
+-- two comparisons that imply each other are one test
+ltb_ext : (a b c d : ℕ) → (a < b → c < d) → (c < d → a < b) → ltb a b ≡ ltb c d
+ltb_ext a b c d p q = bool_ext _ _ (λ e. lt-ltb c d (p (ltb-true a b e))) (λ e. lt-ltb a b (q (ltb-true c d e)))
 
 is_none-slice_get : (cs : List Card) (i : ℕ) → is_none (slice_get cs i) ≡ not (ltb i (length cs))
 is_none-slice_get cs i = go (cases_lt i (length cs))

@@ -52,6 +52,7 @@ use Rattle.family.specs.Seen.{seen_change, found_reasons, seen_verdict, seen_ope
 use Rattle.family.proofs.Returns.{seen_0, seen_19, seen_plain}
 use Rattle.family.proofs.Accepts.{box_tells, has_sound, lifetime_room}
 use Rattle.family.proofs.Affords.{monthly_ok, card_affords}
+use Rattle.family.proofs.Sums.{ltb_ext}
 use Rattle.std.proofs.Math.Bool.{and-true}
 use Rattle.std.specs.Prelude.{Some, None, Result, Ok, Err, ⊤}
 use Rattle.tariff.specs.declared.Refusal.{Refusal}
@@ -68,10 +69,6 @@ same_held u v h = simp (
   test_held u.incoming v.incoming h.incoming,
   test_held u.sms v.sms h.sms,
 )
-
--- two comparisons that imply each other are one test
-ltb_ext : (a b c d : ℕ) → (a < b → c < d) → (c < d → a < b) → ltb a b ≡ ltb c d
-ltb_ext a b c d p q = bool_ext _ _ (λ e. lt-ltb c d (p (ltb-true a b e))) (λ e. lt-ltb a b (q (ltb-true c d e)))
 
 over_held : (n : ℕ) → ltb 16 (min n 17) ≡ ltb 16 n
 over_held n = ltb_ext 16 (min n 17) 16 n (λ h. omega arith) (λ h. omega arith)

@@ -22,7 +22,7 @@ use Rattle.reader.proofs.Decoded.{decoded_call, after_call}
 use Rattle.replay.specs.declared.Progress.{Progress}
 use Rattle.replay.specs.declared.Replayed.{Replayed}
 use Rattle.replay.specs.Replay.{coded, coded_calls, run_section, replay_step, after_step, run_first, replayed_of, progress_of, SaidSound}
-use Rattle.replay.proofs.Steps.{replay_list, replay_is, list_step, list_end, step_bounded, replay_sound, replayed_is}
+use Rattle.replay.proofs.Steps.{replay_list, replay_is, list_step, list_end, step_bounded, replay_size, replay_sound, replayed_is}
 
 coded_more : (cs : List File.Call) (c : File.Call) → coded_calls (cs ++ (c ∷ [])) ≡ coded_calls cs ++ (coded c.code c.number ∷ [])
 unfolding coded_calls
@@ -64,6 +64,11 @@ passed_call s i n l h =
     let e : 8 * i + 8 ≡ 8 * (i + 1) = omega arith in
     after_call s (8 * i) fits ∙ e
 
+-- the log keeps its size
+pub step_keeps_size : (t : Replayed) (s : Option CodedCall) → length t.account.log ≡ 1599 → length (after_step t s).account.log ≡ 1599
+step_keeps_size t (Some c) h = replay_size t (coded c.code c.number) h
+step_keeps_size t None h = h
+
 -- a sound account stays sound
 step_sound : (t : Replayed) (s : Option CodedCall) → sound t.account ≡ true → sound (after_step t s).account ≡ true
 step_sound t (Some c) h = replay_sound t (coded c.code c.number) h
@@ -98,6 +103,12 @@ pub turned : (a : Account) (s : List ℕ) (i n : ℕ) (t : Progress) (log : List
 turned a s i n t log x p zs l h same d e f =
     let fits : 8 * i + 8 ≤ length s = omega arith in
     replayed_is t.sound (after_step (replayed_of t log) x) p zs e f ∙ rw (d, same) (run_more a s i fits)
+
+-- fewer calls are refused than are run
+pub few_refused : (a : Account) (s : List ℕ) (i n : ℕ) (t : Progress) (log : List ℕ) → i < n → n < 18446744073709551616 → replayed_of t log ≡ run_first a s i → t.refused < 18446744073709551615
+few_refused a s i n t log l h e =
+    let k : t.refused ≡ (run_first a s i).refused = ap (λ (x : Replayed). x.refused) e in
+    omega (arith, k, run_bounded a s i)
 
 -- where the reader hands out no more, all calls of the section have been run
 pub all_run : (a : Account) (s : List ℕ) (i : ℕ) (r : Replayed) → r ≡ run_first a s i → 8 * i ≤ length s → None ≡ decoded s (8 * i) → r ≡ run_section a s

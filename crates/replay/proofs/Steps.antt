@@ -84,3 +84,9 @@ pub replay_sound : (t : Replayed) (x : Option Call) → sound t.account ≡ true
 unfolding replay_step
 replay_sound t (Some c) s = sound_passes _ (sound_step t.account c (sound_tells t.account s))
 replay_sound t None s = s
+
+-- the log keeps its size
+pub replay_size : (t : Replayed) (x : Option Call) → length t.account.log ≡ 1599 → length (replay_step t x).account.log ≡ 1599
+unfolding replay_step
+replay_size t (Some c) h = step_size t.account c h
+replay_size t None h = h

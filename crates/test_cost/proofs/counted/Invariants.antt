@@ -3,4 +3,4 @@ use Rattle.std.proofs.Common.{◌≤◌}
 use Rattle.test_cost.proofs.counted.Given as goal
 
 abbrev pub invariant-loop : goal.invariant-loop
-invariant-loop l = l.accepted ≤ l.counter
+invariant-loop g l = l.accepted ≤ l.counter

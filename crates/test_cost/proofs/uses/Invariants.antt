@@ -1,0 +1,6 @@
+-- No more calls are accepted than were made.
+use Rattle.std.proofs.Common.{◌≤◌}
+use Rattle.test_cost.proofs.uses.Given as goal
+
+abbrev pub invariant-loop : goal.invariant-loop
+invariant-loop l = l.accepted ≤ l.counter
