@@ -27,7 +27,7 @@ fn put_first(out: &mut [u64], ns: &[u64])
     requires { length ns.now ≤ length out.old }
     ensures { out.new ≡ laid ns.now out.old }
 {
-    out[..ns.len()].copy_from_slice(ns);
+    numbers::put_numbers(out, 0, ns);
 }
 
 // kept: room in a lent list, here and in `files` and `texts`, and 1,649 numbers in `settle`, `open_on` and

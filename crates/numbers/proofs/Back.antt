@@ -1,12 +1,12 @@
 -- The account's numbers, there and back. Assumes nothing.
 use Prim.Native.Nat.{ℕ, zero, suc, ◌+◌, ◌*◌, ◌/◌, ◌%◌, ◌≤◌}
-use mathlib.Core.Path.{◌≡◌, refl, ◌∙◌, ap}
+use mathlib.Core.Path.{◌≡◌, refl, sym, ◌∙◌, ap}
 use mathlib.Core.Bool.{true, cond}
-use mathlib.Core.List.{List, [], ◌∷◌, ◌++◌}
+use mathlib.Core.List.{List, [], ◌∷◌, ◌++◌, append-nil}
 use native.Mathlib.Omega.{arith}
 use lib.Dec.{eqb}
-use lib.ListN.{length, get_or, take, drop, length-append}
-use lib.Seq.{get_or-drop, drop-cons, take_all, take_at, drop_at}
+use lib.ListN.{length, get_or, take, drop, length-append, take-append-drop, drop_of_length-le}
+use lib.Seq.{get_or-drop, drop-cons, take_all, take_at, drop_at, length-take-le}
 use borrow.Rule.Slice.PartMut.{put_mid}
 use Rattle.std.proofs.lemmas.Bool.Decides.{nat_tests}
 use Rattle.tariff.specs.declared.Form.{Form}
@@ -21,7 +21,7 @@ use Rattle.state.specs.declared.State.{State}
 use Rattle.account.specs.declared.Account.{Account}
 use Rattle.numbers.specs.Numbers.{place_number, place_from, allowance_number, allowance_from, service_number, service_from, front_numbers, meters_numbers, quota_numbers, end_numbers, state_numbers, state_from, log_part, rest_part, account_numbers, account_from, tags_known, is_account}
 use Rattle.numbers.specs.Claims.{AccountOfItsNumbers, NumbersOfTheirAccount}
-use Rattle.numbers.proofs.Laid.{laid_five, log_length, rest_length, parts_join}
+use Rattle.numbers.proofs.Laid.{laid_five, laid_whole, log_length, rest_length, parts_join}
 
 form_back : (f : Form) → form_of (form_word f) ≡ f
 unfolding form_of
@@ -58,8 +58,12 @@ service_forth n = grind (arith, nat_tests)
 marks_small : (d : Day) → marks_number d ≤ 7
 marks_small d = grind (arith, nat_tests)
 
-marks_forth : (m : ℕ) → m ≤ 7 → cond (eqb (m % 2) 1) 1 0 + 2 * cond (eqb (m / 2 % 2) 1) 1 0 + 4 * cond (eqb (m / 4 % 2) 1) 1 0 ≡ m
-marks_forth m h = grind (arith, nat_tests)
+marks_back : (m : ℕ) → m ≤ 7 → cond (eqb (m % 2) 1) 1 0 + 2 * cond (eqb (m / 2 % 2) 1) 1 0 + 4 * cond (eqb (m / 4 % 2) 1) 1 0 ≡ m
+marks_back m h = grind (arith, nat_tests)
+
+marks_forth : (ys : List ℕ) → get_or ys 33 0 ≤ 7 → marks_number (day_from (drop 33 ys)) ≡ get_or ys 33 0
+unfolding day_from
+marks_forth ys h = rw (get_or-drop 33 ys 0 0) (marks_back (get_or ys 33 0) h)
 
 -- the state of a state's numbers
 state_back : (a : State) → state_from (state_numbers a) ≡ a
@@ -70,14 +74,34 @@ pub state_length : (a : State) → length (state_numbers a) ≡ 50
 unfolding state_numbers numbers_of
 state_length a = refl
 
+day_length : (d : Day) → length (numbers_of d) ≡ 13
+unfolding numbers_of
+day_length d = refl
+
 -- a state's numbers, group by group behind the log
-pub state_laid : (s : List ℕ) (t : State) (a b c d e : List ℕ) → length s ≡ 1649 → a ≡ front_numbers t → b ≡ meters_numbers t.meters → c ≡ quota_numbers t.quota
+pub state_laid : (s : List ℕ) (t : State) (a b c d e u v w x y : List ℕ) → length s ≡ 1649 → a ≡ front_numbers t → b ≡ meters_numbers t.meters → c ≡ quota_numbers t.quota
+    → d ≡ numbers_of t.today → e ≡ end_numbers t → u ≡ take 1599 s ++ (a ++ drop (1599 + length a) s) → v ≡ take 1612 u ++ (b ++ drop (1612 + length b) u)
+    → w ≡ take 1629 v ++ (c ++ drop (1629 + length c) v) → x ≡ take 1632 w ++ (d ++ drop (1632 + length d) w) → y ≡ take 1645 x ++ (e ++ drop (1645 + length e) x)
+    → y ≡ log_part s ++ state_numbers t
+unfolding log_part state_numbers
+state_laid s t a b c d e u v w x y h ha hb hc hd he g1 g2 g3 g4 g5 =
+    let la : 1599 + length a ≡ 1612 = omega (arith, ap length ha) in
+    let lb : 1612 + length b ≡ 1629 = omega (arith, ap length hb) in
+    let lc : 1629 + length c ≡ 1632 = omega (arith, ap length hc) in
+    let ld : 1632 + length d ≡ 1645 = omega (arith, ap length hd ∙ day_length t.today) in
+    let le : 1645 + length e ≡ 1649 = omega (arith, ap length he) in
+    laid_five s (take 1599 s) a b c d e u v w x y 1599 1612 1629 1632 1645 1649 (length-take-le 1599 s (omega arith)) la lb lc ld le (sym (take-append-drop 1599 s)) g1 g2 g3 g4 g5
+    ∙ (ap (λ (l : List ℕ). (take 1599 s ++ (a ++ (b ++ (c ++ (d ++ e))))) ++ l) (drop_of_length-le s {i = 1649} (omega arith))
+    ∙ (append-nil (take 1599 s ++ (a ++ (b ++ (c ++ (d ++ e))))) ∙ λ j. take 1599 s ++ (ha j ++ (hb j ++ (hc j ++ (hd j ++ he j))))))
+
+-- the same, as parts put into the list
+pub state_put : (s : List ℕ) (t : State) (a b c d e : List ℕ) → length s ≡ 1649 → a ≡ front_numbers t → b ≡ meters_numbers t.meters → c ≡ quota_numbers t.quota
     → d ≡ numbers_of t.today → e ≡ end_numbers t
     → put_mid 1645 4 (put_mid 1632 13 (put_mid 1629 3 (put_mid 1612 17 (put_mid 1599 13 s a) b) c) d) e ≡ log_part s ++ state_numbers t
 unfolding log_part state_numbers numbers_of
-state_laid s t a b c d e h ha hb hc hd he =
+state_put s t a b c d e h ha hb hc hd he =
     rw (ha, hb, hc, hd, he)
-    (laid_five s (front_numbers t) (meters_numbers t.meters) (quota_numbers t.quota) (numbers_of t.today) (end_numbers t) 1599 1612 1629 1632 1645 1649 h refl refl refl refl refl)
+    (laid_whole s (front_numbers t) (meters_numbers t.meters) (quota_numbers t.quota) (numbers_of t.today) (end_numbers t) 1599 1612 1629 1632 1645 1649 h refl refl refl refl refl)
 
 -- n numbers of a list, from number i on, one by one
 unfoldable spelled : ℕ → ℕ → List ℕ → List ℕ
@@ -106,7 +130,7 @@ tags_of a = grind (arith, nat_tests, form_small, place_small, marks_small)
 -- the numbers of their state
 state_spelled : (ys : List ℕ) → Known ys → state_numbers (state_from ys) ≡ spelled 50 0 ys
 unfolding state_numbers state_from spelled day_from numbers_of
-state_spelled ys k = simp (get_or-drop, form_forth _ k.form, place_forth _ k.place, marks_forth _ k.marks, allowance_forth, service_forth)
+state_spelled ys k = simp (get_or-drop, form_forth _ k.form, place_forth _ k.place, marks_back _ k.marks, allowance_forth, service_forth)
 
 state_forth : (ys : List ℕ) → length ys ≡ 50 → Known ys → state_numbers (state_from ys) ≡ ys
 state_forth ys e k = state_spelled ys k ∙ spelled_part 50 0 ys (omega arith) ∙ take_all 50 ys (omega arith)

@@ -278,9 +278,9 @@ pub fn put_state(account: &mut [u64], a: State)
     requires { (length account.old ≡ 1649) × Writable a }
     ensures { account.new ≡ log_part account.old ++ state_numbers a }
 {
-    account[1599..1612].copy_from_slice(&front_of(a));
-    account[1612..1629].copy_from_slice(&meters_numbers(a.meters));
-    account[1629..1632].copy_from_slice(&quota_numbers(a.quota));
-    account[1632..1645].copy_from_slice(&presence::log::numbers(a.today));
-    account[1645..1649].copy_from_slice(&end_of(a));
+    put_numbers(account, 1599, &front_of(a));
+    put_numbers(account, 1612, &meters_numbers(a.meters));
+    put_numbers(account, 1629, &quota_numbers(a.quota));
+    put_numbers(account, 1632, &presence::log::numbers(a.today));
+    put_numbers(account, 1645, &end_of(a));
 }

@@ -68,7 +68,7 @@ impl Iterator for Reader<'_> {
     // The reader's next call, and the reader moved past it; none at the end, where the reader stays.
     fn next(&mut self) -> Option<CodedCall> {
         let call = decode(self.section, self.at)?;
-        self.at += 8;
+        self.at = after(self.section, self.at);
         Some(call)
     }
 }

@@ -8,7 +8,7 @@ use Rattle.tariff.specs.declared.Kind.{Kind}
 use Rattle.tariff.specs.declared.Kind.TheVariants.{Data, Outgoing, Incoming, Sms}
 use Rattle.tariff.specs.declared.Place.TheVariants.{Home, Zone, Elsewhere}
 use Rattle.tariff.specs.declared.Plan.{Plan}
-use Rattle.tariff.specs.Units.{only, AtMost}
+use Rattle.tariff.specs.Units.{zero_units, only, AtMost}
 use Rattle.tariff.proofs.ChargeLaws.{billed_bounded, after_allowance_bounded}
 use Rattle.presence.specs.declared.ServiceState.{ServiceState}
 use Rattle.presence.specs.declared.ServiceState.TheVariants.{Clear, Warned, Surcharged}
@@ -16,13 +16,25 @@ use Rattle.presence.specs.declared.Services.{Services}
 use Rattle.presence.specs.Day.{in_zone}
 use Rattle.state.specs.declared.State.{State}
 use Rattle.state.specs.Use.{charged_as, charged_units, with_seconds, billable, roaming, billed_of, surcharged_of, surcharged_units, newly_surcharged}
+use Rattle.state.specs.Needs.{bears}
 use Rattle.std.specs.Prelude.{Option, Some, None}
 use Rattle.tariff.specs.declared.Place.{Place}
 
 -- what a record is charged as
+either_grows : (b : Bool) (m n : ℕ) → m ≤ n → cond b (max m 30) m ≤ cond b (max n 30) n
+either_grows true m n h = omega arith
+either_grows false m n h = h
+
 either_few : (b : Bool) (n : ℕ) → n ≤ 1000000000 → cond b (max n 30) n ≤ 1000000000
 either_few true n h = omega arith
 either_few false n h = h
+
+charged_grow : (w : Option Place) (k : Kind) (m n : ℕ) → m ≤ n → charged_as w k m ≤ charged_as w k n
+unfolding charged_as
+charged_grow w Data m n h = h
+charged_grow w Outgoing m n h = either_grows (in_zone w) m n h
+charged_grow w Incoming m n h = h
+charged_grow w Sms m n h = h
 
 pub charged_few : (w : Option Place) (k : Kind) (n : ℕ) → n ≤ 1000000000 → charged_as w k n ≤ 1000000000
 unfolding charged_as
@@ -30,6 +42,14 @@ charged_few w Data n h = h
 charged_few w Outgoing n h = either_few (in_zone w) n h
 charged_few w Incoming n h = h
 charged_few w Sms n h = h
+
+-- more units are charged as more
+pub charged_order : (w : Option Place) (k : Kind) (m n : ℕ) → m ≤ n → AtMost (charged_units w k m) (charged_units w k n)
+unfolding charged_units
+charged_order w Data m n h = omega (arith, charged_grow w Data m n h)
+charged_order w Outgoing m n h = omega (arith, charged_grow w Outgoing m n h)
+charged_order w Incoming m n h = omega (arith, charged_grow w Incoming m n h)
+charged_order w Sms m n h = omega (arith, charged_grow w Sms m n h)
 
 -- but for outgoing seconds a record is charged as its units
 pub charged_is : (w : Option Place) (k : Kind) (n : ℕ) → charged_units w k n ≡ with_seconds (only k n) (charged_units w k n).outgoing
@@ -82,3 +102,18 @@ surcharged_bounded s l r z = record {
 pub newly_bounded : (a : State) (c : Units) → AtMost (newly_surcharged a c) c
 unfolding newly_surcharged
 newly_bounded a c = omega (arith, roaming_bounded a.place c, surcharged_bounded a.services a.quota.allowance a.quota.roamed (roaming a.place c))
+
+-- the tests that the code makes
+pub billable_is : (w : Option Place) (u : Units) → cond (bears w) u zero_units ≡ billable w u
+unfolding billable
+billable_is None u = refl
+billable_is (Some Home) u = refl
+billable_is (Some Zone) u = refl
+billable_is (Some Elsewhere) u = refl
+
+pub roaming_is : (w : Option Place) (u : Units) → cond (in_zone w) u zero_units ≡ roaming w u
+unfolding roaming
+roaming_is None u = refl
+roaming_is (Some Home) u = refl
+roaming_is (Some Zone) u = refl
+roaming_is (Some Elsewhere) u = refl

@@ -66,6 +66,10 @@ module _ (a : State) (k : Kind) (n : ℕ) where
       let s = ltb 1000000000000 (a.meters.chargedseconds + (charged_units a.place k n).outgoing) in
       record { units = ltb-false _ _ (or_left u s o); seconds = ltb-false _ _ (or_right u s o) }
 
+  pub room_enough : Room → overfills a k n ≡ false
+  unfolding overfills
+  room_enough r = rw (le-ltb _ _ r.units, le-ltb _ _ r.seconds) refl
+
 few_only : (k : Kind) (n : ℕ) → n ≤ 1000000000 → AtMost (only k n) (each 1000000000 1000000000 1000000000 1000000000)
 few_only Data n h = omega arith
 few_only Outgoing n h = omega arith

@@ -43,9 +43,10 @@ pub fn bears_home_price(w: Location) -> bool
 fn billable_of(w: Location, u: Units) -> Units
     ensures { result ≡ billable w u }
 {
-    match w {
-        Some(Place::Home | Place::Zone) => u,
-        Some(Place::Elsewhere) | None => Units::default(),
+    if bears_home_price(w) {
+        u
+    } else {
+        Units::default()
     }
 }
 
@@ -54,9 +55,10 @@ fn billable_of(w: Location, u: Units) -> Units
 fn roaming_of(w: Location, u: Units) -> Units
     ensures { result ≡ roaming w u }
 {
-    match w {
-        Some(Place::Zone) => u,
-        Some(Place::Home | Place::Elsewhere) | None => Units::default(),
+    if presence::days::zone_at(w) {
+        u
+    } else {
+        Units::default()
     }
 }
 
