@@ -30,6 +30,16 @@ day_back d xs = go d.home d.zone d.elsewhere refl refl refl
     go false false true p q r = rw (p, q, r) refl
     go false false false p q r = rw (p, q, r) refl
 
+-- the days that a log stands for are 123
+count_days : (n : ℕ) (xs : List ℕ) → length (days_first n xs) ≡ n
+unfolding days_first
+count_days zero xs = refl
+count_days (suc n) xs = ap suc (count_days n (drop 13 xs))
+
+pub all_days : (xs : List ℕ) → length (days_of xs) ≡ 123
+unfolding days_of
+all_days xs = count_days 123 xs
+
 day_in : (n i : ℕ) (xs : List ℕ) → i < n → get_or (days_first n xs) i empty_day ≡ day_from (drop (13 * i) xs)
 unfolding days_first
 day_in zero i xs h = absurd (omega arith)
@@ -143,7 +153,7 @@ marks_fewer (suc n) xs e =
     let t = leb (get_or xs 0 0) 7 in
     rw (and_left t _ e) (marks_fewer n (drop 13 xs) (and_right t _ e))
 
-number_proper : (h z e : Bool) → leb (cond h 1 0 + 2 * cond z 1 0 + 4 * cond e 1 0) 7 ≡ true
+pub number_proper : (h z e : Bool) → leb (cond h 1 0 + 2 * cond z 1 0 + 4 * cond e 1 0) 7 ≡ true
 number_proper true true true = refl
 number_proper true true false = refl
 number_proper true false true = refl
