@@ -96,43 +96,37 @@ fn surcharged_of(s: Services, l: Allowance, r: u64, z: Units) -> Units
     }
 }
 
-// Priced units of the account after a use charged as c.
+// Priced units of the account after a use charged as c, of which so much is billable.
 #[tactic(auto, using(crate::proofs::Billing::billed_sum), unfolding(crate::specs::Use::billed_after))]
-fn billed_with(a: &State, c: Units) -> Units
-    requires { Ready a.now c }
+fn billed_with(a: &State, c: Units, borne: Units) -> Units
+    requires ready { Ready a.now c }
+    requires borne { borne ≡ billable a.now.place c }
     ensures { result ≡ billed_after a.now c }
 {
-    let borne = billable_of(a.place, c);
     tariff::amounts::plus(
         a.meters.billed,
         billed_units(a.plan, a.quota.monthly, borne),
     )
 }
 
-// The units of such a use that bear a surcharge.
+// The units of such a use that bear a surcharge, where these of it roam.
 #[tactic(auto, unfolding(crate::specs::Use::newly_surcharged))]
-fn surcharged_now(a: &State, c: Units) -> Units
+fn surcharged_now(a: &State, c: Units, zone: Units) -> Units
+    requires { zone ≡ roaming a.now.place c }
     ensures { result ≡ newly_surcharged a.now c }
 {
-    surcharged_of(
-        a.services,
-        a.quota.allowance,
-        a.quota.roamed,
-        roaming_of(a.place, c),
-    )
+    surcharged_of(a.services, a.quota.allowance, a.quota.roamed, zone)
 }
 
-// The sums of cap x units after it.
+// The sums of cap x units after it, where these bear a surcharge.
 #[tactic(auto, using(crate::proofs::Billing::basis_product, crate::proofs::Billing::basis_sum), unfolding(crate::specs::Use::basis_after))]
-fn basis_with(a: &State, c: Units) -> Units
-    requires { Ready a.now c }
+fn basis_with(a: &State, c: Units, fresh: Units) -> Units
+    requires ready { Ready a.now c }
+    requires fresh { fresh ≡ newly_surcharged a.now c }
     ensures { result ≡ basis_after a.now c }
 {
     let rate = tariff::caps::caps_of(a.day);
-    tariff::amounts::plus(
-        a.meters.basis,
-        tariff::amounts::times(rate, surcharged_now(a, c)),
-    )
+    tariff::amounts::plus(a.meters.basis, tariff::amounts::times(rate, fresh))
 }
 
 // What a use charged as c makes of the sums.
@@ -141,16 +135,19 @@ fn work_out(a: &State, c: Units) -> Bill
     requires { Ready a.now c }
     ensures { result ≡ bill_of a.now c }
 {
-    let billed = billed_with(a, c);
-    let basis = basis_with(a, c);
+    let borne = billable_of(a.place, c);
+    let zone = roaming_of(a.place, c);
+    let billed = billed_with(a, c, borne);
+    let fresh = surcharged_now(a, c, zone);
+    let basis = basis_with(a, c, fresh);
     Bill {
         billed,
-        fresh: surcharged_now(a, c),
+        fresh,
         basis,
         home: tariff::charges::home_of(a.plan, billed),
         extra: tariff::charges::surcharges_from(basis),
-        counted: tariff::charges::counted_of(a.plan.form, billable_of(a.place, c).kb),
-        zone: roaming_of(a.place, c).kb,
+        counted: tariff::charges::counted_of(a.plan.form, borne.kb),
+        zone: zone.kb,
     }
 }
 
