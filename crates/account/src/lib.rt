@@ -287,8 +287,8 @@ impl Account {
     }
 
     // kept: each of the five is over the function of its call, to which the log is lent (`register_with` and so on), and
-    // not over `make`: by `test_cost` a registration took 7,218 instructions so and takes 6,092, a top-up 7,241 and 6,129,
-    // Afford 8,521 and 6,562.
+    // not over `make`. By `test_cost` a registration took 8,534 instructions so and takes 6,092, a top-up 8,557 and
+    // 6,129, Afford 9,829 and 6,562.
 
     // Refusal 0.
     pub fn register(mut self, p: Place) -> Applied
