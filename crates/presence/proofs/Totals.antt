@@ -126,8 +126,12 @@ pub day_low : (n i : ℕ) (ds : List Day) → i < n → Low (units_over n ds) �
 day_low n i ds h l = omega (arith, over_at n i ds h)
 
 -- so are those of fewer days
-pub fewer_low : (w n : ℕ) (ds : List Day) → w ≤ n → Low (units_over n ds) → Low (units_over w ds)
-fewer_low w n ds h l = omega (arith, over_fewer w n ds h)
+pub low_fewer : (w n : ℕ) (ds : List Day) → w ≤ n → Low (units_over n ds) → Low (units_over w ds)
+low_fewer w n ds h l = omega (arith, over_fewer w n ds h)
+
+-- and in a full log there are no more of these than it holds
+pub fewer_low : (w n : ℕ) (ds : List Day) → w ≤ n → n ≤ 123 → Low (units_over n ds) → (w ≤ 123) × Low (units_over w ds)
+fewer_low w n ds h few l = (omega arith, low_fewer w n ds h l)
 
 -- a step does not depend on a window that it does not ask for
 pub step_asked : (full long short a b : Bool) (state : ServiceState) → (long_asked full state ≡ true → a ≡ true) → (short_asked state ≡ true → b ≡ true)

@@ -8,7 +8,7 @@ use lib.ListN.{length}
 use Rattle.words.specs.Words.{word}
 use mathlib.Core.Bool.{Bool, true, false}
 use lib.Dec.{leb}
-use borrow.Author.Tests.{leb-true, leb-false}
+use borrow.Author.Tests.{leb-false}
 use Rattle.account.specs.declared.Account.{Account}
 use Rattle.std.specs.Prelude.{Option, Some, None}
 use Rattle.account.specs.declared.Call.{Call}
@@ -43,6 +43,9 @@ first_is a s (suc n) =
 pub section_replayed : (a : Account) (s : List ℕ) → run_first a s (length s / 8) ≡ run_section a s
 unfolding calls_in
 section_replayed a s = first_is a s (length s / 8) ∙ replay_is a (first_calls s (length s / 8))
+
+pub all_replayed : (a : Account) (s : List ℕ) (n : ℕ) → n ≡ length s / 8 → run_first a s n ≡ run_section a s
+all_replayed a s n e = ap (run_first a s) e ∙ section_replayed a s
 
 pub run_none : (a : Account) (s : List ℕ) → run_first a s 0 ≡ record { account = a; refused = 0 }
 unfolding run_first
@@ -81,14 +84,7 @@ stays_known t log x p zs k e f h =
     let g = ap (λ (q : Replayed). sound q.account) (replayed_is t.sound (after_step (replayed_of t log) x) p zs e f) in
     g ∙ step_sound (replayed_of t log) x (k (sym (ap (λ (q : Progress). q.sound) e) ∙ h))
 
--- where a call is handed out 8 bytes are left, and where none is fewer are
-pub decoded_fits : (s : List ℕ) (at : ℕ) (c : CodedCall) → Some c ≡ decoded s at → at + 8 ≤ length s
-decoded_fits s at c e = go (leb (at + 8) (length s)) refl
-  where
-    go : (b : Bool) → leb (at + 8) (length s) ≡ b → at + 8 ≤ length s
-    go true h = leb-true _ _ h
-    go false h = let f : Some c ≡ None = rw h at e in cc
-
+-- where no call is handed out fewer than 8 bytes are left
 pub decoded_ends : (s : List ℕ) (at : ℕ) → None ≡ decoded s at → length s < at + 8
 decoded_ends s at e = go (leb (at + 8) (length s)) refl
   where
@@ -110,8 +106,7 @@ few_refused a s i n t log l h e =
     let k : t.refused ≡ (run_first a s i).refused = ap (λ (x : Replayed). x.refused) e in
     omega (arith, k, run_bounded a s i)
 
--- where the reader hands out no more, all calls of the section have been run
-pub all_run : (a : Account) (s : List ℕ) (i : ℕ) (r : Replayed) → r ≡ run_first a s i → 8 * i ≤ length s → None ≡ decoded s (8 * i) → r ≡ run_section a s
-all_run a s i r e h n =
-    let k : i ≡ length s / 8 = omega (arith, decoded_ends s (8 * i) n) in
-    e ∙ ap (run_first a s) k ∙ section_replayed a s
+-- no call of the first n is missing where the section has them all
+pub all_taken : (s : List ℕ) (i left n : ℕ) → left + i ≡ n → 8 * n ≤ length s → (0 < left → None ≡ decoded s (8 * i)) → i ≡ n
+all_taken s i zero n e h f = omega arith
+all_taken s i (suc k) n e h f = absurd (omega (arith, decoded_ends s (8 * i) (f (omega arith))))

@@ -4,7 +4,7 @@
 ghost use Rattle.std.specs.Prelude.{◌≡◌, ◌+◌, ◌*◌, ◌≤◌, ◌<◌, length};
 ghost use Rattle.account.specs.Calls.{step};
 ghost use Rattle.account.specs.Answers.{account_of, applied, applied_state};
-ghost use Rattle.replay.specs.Replay.{coded, replay_step, run_section, replayed_of, progress_of};
+ghost use Rattle.replay.specs.Replay.{coded, replay_step, run_first, run_section, replayed_of, progress_of};
 ghost use Rattle.replay.specs.Replay.{SaidSound, Going, Starting};
 
 use account::{Account, Call};
@@ -87,13 +87,13 @@ pub fn replay_with(t: Progress, log: &mut Log, x: Option<Call>) -> Progress
     }
 }
 
-// The calls of a calls section, with the log lent: one reader over the section.
-fn run_calls(section: &[u8], from: Progress, log: &mut Log) -> Progress
-    requires { Starting from log.old }
-    ensures { replayed_of result log.new ≡ run_section (account_of from.state log.old) section.now }
+// The first n calls of a calls section, with the log lent: one reader over the section.
+fn run_calls(section: &[u8], n: usize, from: Progress, log: &mut Log) -> Progress
+    requires { (8 * n ≤ length section.now) × Starting from log.old }
+    ensures { replayed_of result log.new ≡ run_first (account_of from.state log.old) section.now n }
 {
     let mut t = from;
-    for c in Reader::new(section) {
+    for c in Reader::new(section).take(n) {
         t = replay_with(t, log, decode(c.code, c.number));
     }
     t
@@ -110,7 +110,7 @@ pub fn run_section(section: &[u8], state: State, log: &mut Log, known: bool) -> 
         refused: 0,
         sound: known,
     };
-    run_calls(section, from, log)
+    run_calls(section, section.len() / 8, from, log)
 }
 
 // All calls of a calls section, with the log lent: one for each whole eight bytes. The account is looked at once: if it

@@ -66,7 +66,7 @@ fn filled(a: Account) -> Account {
     Account { state, log }
 }
 
-// The same of a use of 1 kB.
+// As `counted`, of a use of 1 kB.
 // kept: a loop of its own. Through `counted` a use took 12,702 instructions and not 8,567: the account was copied three
 // times more.
 fn uses(mut a: Account, times: u64) -> Tally {

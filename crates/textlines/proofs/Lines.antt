@@ -1,73 +1,37 @@
--- The lines of a text, as `split_inclusive` cuts it after each line feed. Assumes nothing.
-use mathlib.Core.Path.{◌≡◌, refl, sym, ◌∙◌, ap, subst}
+-- The lines of a text, one after the other. Assumes nothing.
+use mathlib.Core.Path.{◌≡◌, refl, sym, ◌∙◌, ap}
 use mathlib.Core.Bool.{Bool, true, false, cond}
-use mathlib.Core.List.{List, [], ◌∷◌, ◌++◌, append-nil}
-use Prim.Native.Nat.{ℕ, suc, ◌+◌, ◌≤◌, ◌<◌, min}
+use mathlib.Core.List.{List, [], ◌∷◌}
+use Prim.Native.Nat.{ℕ, suc, ◌+◌, ◌≤◌, ◌<◌}
 use native.Mathlib.Omega.{arith}
-use lib.ListN.{length, get_or, take, drop, length-append}
-use lib.Seq.{take_at, drop_at}
-use lib.Dec.{eqb, ltb}
-use borrow.Author.Tests.{eqb-true, eqb-false, ltb-true, ltb-false}
-use denote.Ref.{Bor}
-use denote.Param.Members.{Mut}
-use Rattle.std.specs.Prelude.{Option}
-use Rattle.std.specs.Option.{MatchOption}
-use Rattle.std.specs.Fn.{ComputesKey, CalledAt}
-use Rattle.std.specs.List.{IsFirstMatchOrLen, enumerate_from, prefix_len}
-use Rattle.std.specs.Slice.Iter.{split_inclusive_rest, split_inclusive_callee}
-use Rattle.std.specs.declared.slice.SplitInclusive.{SplitInclusive}
-use Rattle.std.proofs.lemmas.Fn.{always_returns_same}
+use lib.ListN.{length, get_or, take, drop, drop_of_length-le}
+use lib.Seq.{take_all}
+use Rattle.std.specs.Iterator.{YieldsFirstRef}
+use Rattle.std.specs.List.{enumerate_from, prefix_len}
 use Rattle.std.proofs.lemmas.Iterator.{YieldsList}
-use Rattle.std.proofs.lemmas.Iterator.Splits.{YieldsList-from_shown_while}
-use Rattle.std.proofs.lemmas.List.{nil_from_length}
+use Rattle.std.proofs.lemmas.Iterator.Consumers.{YieldsList-from_first}
 use Rattle.std.proofs.lemmas.List.Folds.{length-prefix_len}
 use Rattle.std.proofs.lemmas.List.FromFn.{length-enumerate_from, get_or-enumerate_from}
+use Rattle.textlines.specs.declared.reading.Lines.{Lines}
 use Rattle.textlines.specs.Line.{right_line}
 use Rattle.textlines.specs.Text.{lines_of, right_lines}
 use Rattle.textlines.proofs.Split.{NoFeed, nothing, first_ended, whole_line, right_yes, right_no, right_none}
 
--- is a byte a line feed?
-abbrev pub feed : ℕ → Bool
-feed b = eqb b 10
+-- the first line ends after the first line feed
+pub ended_line : (s : List ℕ) (e n : ℕ) → NoFeed s e → e < length s → get_or s e 0 ≡ 10 → n ≡ e + 1 → lines_of s ≡ take n s ∷ lines_of (drop n s)
+ended_line s e n f l h after =
+    let k : n ≡ suc e = omega arith in
+    rw k (first_ended s e f l h)
 
-no_feed : (s : List ℕ) (i : ℕ) → IsFirstMatchOrLen feed s i → NoFeed s i
-no_feed s i m k l e = eqb-false (get_or s k 0) 10 (m.0 k 0 (omega arith) l) e
+-- a text without one is its last line
+pub unended_line : (s : List ℕ) (e n : ℕ) → NoFeed s e → length s ≤ e → 0 < length s → n ≡ length s → lines_of s ≡ take n s ∷ lines_of (drop n s)
+unended_line s e n f far l all =
+    let whole : length s ≤ n = omega arith in
+    rw (take_all n s whole, drop_of_length-le s whole, nothing) (whole_line s l (λ k m. f k (omega arith)))
 
-pub first_line : (s x rest : List ℕ) (i : ℕ) → s ≡ x ++ rest → length x ≡ min (i + 1) (length s) → IsFirstMatchOrLen feed s i → 0 < length s
-    → lines_of s ≡ x ∷ lines_of rest
-first_line s x rest i e n m l = go (ltb i (length s)) refl
-  where
-    go : (b : Bool) → ltb i (length s) ≡ b → lines_of s ≡ x ∷ lines_of rest
-    go true h =
-        let k : i < length s = ltb-true i (length s) h in
-        let long : length x ≡ suc i = omega arith in
-        first_ended s i (no_feed s i m) k (eqb-true (get_or s i 0) 10 (m.1 k 0))
-        ∙ (ap (λ (y : List ℕ). y ∷ lines_of (drop (suc i) s)) (ap (take (suc i)) e ∙ take_at x rest (suc i) long)
-        ∙ ap (λ (y : List ℕ). x ∷ lines_of y) (ap (drop (suc i)) e ∙ drop_at x rest (suc i) long))
-    go false h =
-        let k : length s ≤ i = ltb-false i (length s) h in
-        let none : rest ≡ [] = nil_from_length rest (omega (arith, ap length e, length-append x rest)) in
-        let all : s ≡ x = e ∙ (ap (λ (y : List ℕ). x ++ y) none ∙ append-nil x) in
-        whole_line s l (λ j q. no_feed s i m j (omega arith))
-        ∙ (ap (λ (y : List ℕ). y ∷ []) all ∙ ap (λ (y : List (List ℕ)). x ∷ y) (sym (ap lines_of none ∙ nothing)))
-
--- what a step of `split_inclusive` at a closure g takes off
-abbrev pub takes_line : {F : Type 0} → Mut F (Bor ℕ × Unit {0}) Bool → SplitInclusive ℕ F → Option (Bor (List ℕ)) → SplitInclusive ℕ F → Type 0
-takes_line g s r t = MatchOption r ((length (split_inclusive_rest s) ≡ 0) × (t ≡ s))
-    (λ x. (split_inclusive_rest s ≡ x.now ++ split_inclusive_rest t)
-    × ((i : ℕ) × (length x.now ≡ min (i + 1) (length (split_inclusive_rest s)))
-    × ((p : ℕ → Bool) → ComputesKey g p (split_inclusive_callee s) → ComputesKey g p (split_inclusive_callee t) × IsFirstMatchOrLen p (split_inclusive_rest s) i))
-    × (0 < length (split_inclusive_rest s)))
-
--- so the lines come one by one
-pub yields_lines : {F : Type 0} {s : SplitInclusive ℕ F} (g : Mut F (Bor ℕ × Unit {0}) Bool) {f : F} (xs : List ℕ) → split_inclusive_rest s ≡ xs → split_inclusive_callee s ≡ f
-    → ((x : ℕ) (b : Bool) (q : F) → CalledAt g f x b q → (q ≡ f) × (b ≡ feed x)) → YieldsList (takes_line g) (λ x. x.now) s (lines_of xs)
-yields_lines {s = s} g {f} xs rest callee tests =
-    subst (λ ys. YieldsList (takes_line g) (λ x. x.now) s (lines_of ys)) rest
-    (YieldsList-from_shown_while (takes_line g) (λ x. x.now) (λ t. lines_of (split_inclusive_rest t)) (λ t. ComputesKey g feed (split_inclusive_callee t))
-    (λ t u h k. ap (λ b. length (lines_of b)) (nil_from_length _ k.0) ∙ ap length nothing)
-    (λ t x u h k. let m = k.1.2 feed h in (m.0, first_line _ x.now _ k.1.0 k.0 k.1.1 m.1 k.2))
-    s (subst (ComputesKey g feed) (sym callee) (always_returns_same g (λ a r. r ≡ feed a.0.now) f (λ a r q k. let m = tests a.0.now r q (record { shown = a.0; shows = refl; called = k }) in (m.1, m.0)))))
+-- the lines come one by one
+pub yields_lines : {s : Lines} (xs : List ℕ) → s.rest.now ≡ xs → YieldsList (YieldsFirstRef (λ l. lines_of l.rest.now)) (λ x. x.now) s (lines_of xs)
+yields_lines xs e = YieldsList-from_first (λ x. x.now) (λ l. lines_of l.rest.now) (lines_of xs) (ap lines_of e)
 
 -- ---- the lines in turn
 

@@ -2,7 +2,7 @@
 use mathlib.Core.Path.{◌≡◌, refl, sym, ◌∙◌, ap}
 use mathlib.Core.Bool.{Bool, true, false}
 use mathlib.Core.List.{List, [], ◌∷◌, ◌++◌, append_assoc}
-use Prim.Native.Nat.{ℕ, zero, suc, ◌<◌}
+use Prim.Native.Nat.{ℕ, zero, suc, ◌+◌, ◌≤◌, ◌<◌}
 use native.Mathlib.Omega.{arith}
 use lib.ListN.{length, get_or, take, drop}
 use lib.Dec.{eqb}
@@ -24,6 +24,19 @@ lines_feed bs b e = rw e
 lines_other : (bs : List ℕ) (b : ℕ) → eqb b 10 ≡ false → lines_of (b ∷ bs) ≡ onto b (lines_of bs)
 unfolding lines_of
 lines_other bs b e = rw e
+
+onto_few : (b : ℕ) (ls : List (List ℕ)) → length (onto b ls) ≤ length ls + 1
+onto_few b [] = omega arith
+onto_few b (l ∷ ls) = omega arith
+
+-- no more lines than bytes
+pub lines_few : (t : List ℕ) → length (lines_of t) ≤ length t
+lines_few [] = omega (arith, ap length nothing)
+lines_few (b ∷ bs) = go (eqb b 10) refl (lines_few bs)
+  where
+    go : (d : Bool) → eqb b 10 ≡ d → length (lines_of bs) ≤ length bs → length (lines_of (b ∷ bs)) ≤ length (b ∷ bs)
+    go true e few = rw (lines_feed bs b e) (omega arith)
+    go false e few = rw (lines_other bs b e) (omega (arith, onto_few b (lines_of bs)))
 
 -- ---- of a text of lines
 

@@ -1,10 +1,7 @@
--- The pieces are the lines.
-use Rattle.std.proofs.Common.{rules, tests}
-use Rattle.std.proofs.lemmas.Iterator.Consumers.{count_from_yields_List}
-use Rattle.textlines.proofs.Lines.{yields_lines}
+-- There are no more lines than bytes.
+use Rattle.std.proofs.Common.{arith, inl}
+use Rattle.textlines.proofs.Split.{lines_few}
 use Rattle.textlines.proofs.reading.count_lines.Goals as goal
 
-pub returns : goal.returns
-returns c =
-    count_from_yields_List _ _ c.count.ensures.ran
-    (yields_lines _ c.args.text.now c.split_inclusive.ensures.rest c.split_inclusive.ensures.closure (λ x b q k. search (rules, tests)))
+pub count-requires-clause-fits : goal.count-requires-clause-fits
+count-requires-clause-fits c = inl (omega (arith, lines_few c.args.text.now))

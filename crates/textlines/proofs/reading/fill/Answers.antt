@@ -1,5 +1,5 @@
 -- A turn stores the call of one line.
-use Rattle.std.proofs.Common.{◌≡◌, ◌<◌, sym, ◌∙◌, length, get_or, length-append, rules, tests, arith}
+use Rattle.std.proofs.Common.{◌≡◌, ◌<◌, sym, ◌∙◌, length, get_or, length-append, arith}
 use Rattle.std.proofs.lemmas.Iterator.Consumers.{YieldsList-at, YieldsList-from_enumerate, YieldsList-turn, YieldsList-end}
 use Rattle.std.proofs.lemmas.List.FromFn.{length-enumerate_from}
 use Rattle.text.proofs.Placing.{placed_none}
@@ -14,7 +14,7 @@ turn : (c : In-Some) → (length c.loop-i.yielded < length (lines_of c.args.text
     × (c.in-Some.line.now ≡ get_or (lines_of c.args.text.now) (length c.loop-i.yielded) c.in-Some.line.now)
 turn c =
     let t =
-    YieldsList-turn (YieldsList-from_enumerate (YieldsList-at {t = c.split_inclusive.result} (cc) (yields_lines _ c.args.text.now (cc) (cc) (λ x b q k. search (rules, tests)))) (cc)) c.loop-i.yielded c.loop-i.i-iterator c.loop-i.yielded_by c.next.result c.next.new.self (c.in-Some.i, c.in-Some.line) c.in-Some.is
+    YieldsList-turn (YieldsList-from_enumerate (YieldsList-at (cc) (yields_lines {s = record { rest = c.args.text }} c.args.text.now (cc))) (cc)) c.loop-i.yielded c.loop-i.i-iterator c.loop-i.yielded_by c.next.result c.next.new.self (c.in-Some.i, c.in-Some.line) c.in-Some.is
     c.next.ensures.steps in
     numbered (lines_of c.args.text.now) (length c.loop-i.yielded) c.in-Some.i c.in-Some.line.now t.0 t.1
 
@@ -49,7 +49,7 @@ loop-i-preserved c =
 pub returns : goal.returns
 returns c =
     let text = c.args.text.now in
-    let e = YieldsList-end (YieldsList-from_enumerate (YieldsList-at {t = c.split_inclusive.result} (cc) (yields_lines _ c.args.text.now (cc) (cc) (λ x b q k. search (rules, tests)))) (cc)) c.loop-i.yielded c.loop-i.i-iterator c.loop-i.yielded_by c.next.result c.next.new.self c.in-None.is c.next.ensures.steps in
+    let e = YieldsList-end (YieldsList-from_enumerate (YieldsList-at (cc) (yields_lines {s = record { rest = c.args.text }} c.args.text.now (cc))) (cc)) c.loop-i.yielded c.loop-i.i-iterator c.loop-i.yielded_by c.next.result c.next.new.self c.in-None.is c.next.ensures.steps in
     let n : length c.loop-i.yielded ≡ length (lines_of text) = e.1 ∙ length-enumerate_from 0 (lines_of text) in
     record {
       first = c.loop-i.invariant.codes ∙ codes_all text c.args.codes.now _ n;
